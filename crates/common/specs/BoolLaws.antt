@@ -1,0 +1,28 @@
+-- What a conjunction or a disjunction of tests says.
+use mathlib.Core.Path.{_≡_, refl}
+use mathlib.Core.Logic.{_⊎_, inl, inr}
+use mathlib.Core.Bool.{Bool, true, false, false≢true, _&&_, _||_}
+
+pub and-cases : (x y : Bool) → x && y ≡ true → (x ≡ true) × (y ≡ true)
+and-cases true y e = (refl, e)
+and-cases false y e = absurd (false≢true e)
+
+pub and-both : (x y : Bool) → x ≡ true → y ≡ true → x && y ≡ true
+and-both true y e f = f
+and-both false y e f = absurd (false≢true e)
+
+pub and-false : (x : Bool) → x && false ≡ false
+and-false true = refl
+and-false false = refl
+
+pub or-cases : (x y : Bool) → x || y ≡ true → (x ≡ true) ⊎ (y ≡ true)
+or-cases true y e = inl refl
+or-cases false y e = inr e
+
+pub or-left : (x y : Bool) → x ≡ true → x || y ≡ true
+or-left true y e = refl
+or-left false y e = absurd (false≢true e)
+
+pub or-right : (x y : Bool) → y ≡ true → x || y ≡ true
+or-right true y e = refl
+or-right false y e = e

@@ -1,0 +1,3 @@
+mod Octet
+mod Running
+mod Wrote

@@ -1,0 +1,135 @@
+-- `read_line` meets its contract. The loop's invariant is `Run`: the octets read so far, and what is left of the text, are the line.
+use Prim.Native.Nat.{ℕ, _-_, _+_, _%_}
+use mathlib.Core.Path.{_≡_, sym, _∙_, ap, subst}
+use mathlib.Core.Logic.{inl, inr, ⊎-elim}
+use native.Mathlib.Omega.{arith}
+use borrow.Author.Needs.{needs}
+use lib.ListN.{length}
+use Rattle.common.specs.Lists.{at}
+use Rattle.octets.specs.Line.{digitValue, octet}
+use Rattle.octets.specs.Answers.{told}
+use Rattle.octets.proofs.Running.{Run, run-start, run-more, run-out, run-other, run-short, run-other₂, run-end}
+use Rattle.octets.proofs.read_line.Statement.{statement}
+use Rattle.octets.proofs.read_line.Tie as tie
+
+abbrev Inv-loop : tie.InvT-loop
+Inv-loop text place i₀ n₀ first₀ sum₀ i n first sum = Run text place i n first sum
+
+abbrev μ-loop : tie.MeasureT-loop
+μ-loop text place i₀ n₀ first₀ sum₀ i n first sum = length text - i
+
+loop-holds : tie.Need-loop-holds Inv-loop μ-loop
+loop-holds c = run-start _ _
+
+shared-slice-read-a : tie.Need-shared-slice-read-a Inv-loop μ-loop
+shared-slice-read-a c = omega arith
+
+add-at-end : tie.Need-add-at-end Inv-loop μ-loop
+add-at-end c = omega arith
+
+at-end-requires : tie.Need-at-end-requires Inv-loop μ-loop
+at-end-requires c κs = search needs
+
+returns : tie.Need-returns Inv-loop μ-loop
+returns c =
+    let a = c .before .before in
+    let h = a .before .before in
+    c .at-end .ensures ∙ run-end (h .loop .inv) (a .before .loop-test .taken) (c .before .if1 .taken)
+
+digit-value-requires : tie.Need-digit-value-requires Inv-loop μ-loop
+digit-value-requires c κs = search needs
+
+returns-2 : tie.Need-returns-2 Inv-loop μ-loop
+returns-2 c =
+    let d = c .before .before in
+    let a = d .before in
+    let h = a .before .before in
+    sym (ap (told (h .before .before .args .place)) (run-other (h .loop .inv) (a .before .loop-test .taken) (d .if1 .left) (omega arith)))
+
+add-j : tie.Need-add-j Inv-loop μ-loop
+add-j c = omega arith
+
+returns-3 : tie.Need-returns-3 Inv-loop μ-loop
+returns-3 c =
+    let d = c .before .before .before in
+    let a = d .before in
+    let h = a .before .before in
+    sym (ap (told (h .before .before .args .place)) (run-short (h .loop .inv) (a .before .loop-test .taken) (d .if1 .left) (omega arith)))
+
+shared-slice-read-digit-value : tie.Need-shared-slice-read-digit-value Inv-loop μ-loop
+shared-slice-read-digit-value c = omega arith
+
+digit-value-requires-2 : tie.Need-digit-value-requires-2 Inv-loop μ-loop
+digit-value-requires-2 c κs = search needs
+
+returns-4 : tie.Need-returns-4 Inv-loop μ-loop
+returns-4 c =
+    let d = c .before .before .before .before .before .before in
+    let a = d .before in
+    let h = a .before .before in
+    sym (ap (told (h .before .before .args .place)) (run-other₂ (h .loop .inv) (a .before .loop-test .taken) (d .if1 .left) (omega arith) (omega arith)))
+
+mul-o : tie.Need-mul-o Inv-loop μ-loop
+mul-o c = omega arith
+
+add-o : tie.Need-add-o Inv-loop μ-loop
+add-o c = omega arith
+
+wrapping-add-u8-requires : tie.Need-wrapping-add-u8-requires Inv-loop μ-loop
+wrapping-add-u8-requires c κs = search needs
+
+add-n : tie.Need-add-n Inv-loop μ-loop
+add-n c = omega arith
+
+add-i : tie.Need-add-i Inv-loop μ-loop
+add-i c = omega arith
+
+loop-less : tie.Need-loop-less Inv-loop μ-loop
+loop-less c = omega arith
+
+loop-again : tie.Need-loop-again Inv-loop μ-loop
+loop-again c =
+    let v = c .before .before in
+    let w = v .before .before .before .before .before in
+    let a = w .before .before in
+    let h = a .before .before in
+    let s = h .before .before .args .text .now in
+    let i = h .loop .i in
+    let x : w .digit-value .result ≡ digitValue (at s i) = w .digit-value .ensures in
+    let y : v .before .digit-value2 .result ≡ digitValue (at s (i + 1)) = v .before .digit-value2 .ensures in
+    let e : c .wrapping-add-u8 .result ≡ (h .loop .sum + octet (at s i) (at s (i + 1))) % 256 = omega arith in
+    subst (λ (z : ℕ). Run s (h .before .before .args .place) (i + 2) (h .loop .n + 1) (c .before .if5 .first) z) (sym e)
+    (run-more (h .loop .inv) (c .before .if5 .first) (omega arith) (omega arith) (omega arith)
+    (⊎-elim (λ f. inl (f .0 .taken, omega arith)) (λ f. inr (f .0 .left, f .1)) (c .before .if5 .came)))
+
+returns-5 : tie.Need-returns-5 Inv-loop μ-loop
+returns-5 c =
+    let h = c .before in
+    sym (ap (told (h .before .before .args .place)) (run-out (h .loop .inv) (omega arith)))
+
+pub read-line-spec : {M : Type 1} → statement M
+read-line-spec =
+    tie.close
+    (tie.spec
+    Inv-loop
+    μ-loop
+    loop-holds
+    shared-slice-read-a
+    add-at-end
+    at-end-requires
+    returns
+    digit-value-requires
+    returns-2
+    add-j
+    returns-3
+    shared-slice-read-digit-value
+    digit-value-requires-2
+    returns-4
+    mul-o
+    add-o
+    wrapping-add-u8-requires
+    add-n
+    add-i
+    loop-less
+    loop-again
+    returns-5)

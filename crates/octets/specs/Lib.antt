@@ -1,0 +1,9 @@
+pub mod Line
+pub mod Number
+pub mod Answers
+pub mod Damage
+pub mod Examples
+pub mod LineLaws
+pub mod WritingLaws
+pub mod NumberLaws
+pub mod DamageLaws

@@ -1,0 +1,174 @@
+// One line of the format: pairs of digits 0-9 and A-F, each pair an octet, ended by one byte 0A.
+
+ghost use mathlib.Core.Path.{_≡_};
+ghost use Prim.Native.Nat.{_+_, _<_};
+ghost use lib.ListN.{length, drop};
+ghost use Rattle.octets.specs.Line.{digitValue, frame};
+ghost use Rattle.octets.specs.Line as line;
+ghost use Rattle.octets.specs.Answers.{told, atEnd, octetOf, octetAt, placed, writtenLength, writtenBuffer};
+use common::REFUSED_CHARACTERS;
+use common::REFUSED_LENGTH;
+use common::REFUSED_SUM;
+
+// What the line at a place is.
+pub enum Line {
+    // Refused with document 01's number 1, 2 or 3.
+    Refused(u8),
+    // So many octets, and the place where the next line starts.
+    Octets { count: usize, next: usize },
+}
+
+// The value of a digit; 16 where the byte is none.
+pub fn digit_value(c: u8) -> u8
+    ensures { λ r. ⌜ r ≡ digitValue c ⌝ }
+{
+    if c < 48 {
+        return 16;
+    }
+    if c <= 57 {
+        return c - 48;
+    }
+    if c < 65 {
+        return 16;
+    }
+    if c <= 70 {
+        return c - 55;
+    }
+    16
+}
+
+// What a line is at its end, by its count of octets, the first octet and the sum of all.
+fn at_end(count: usize, first: u8, sum: u8, next: usize) -> Line
+    ensures { λ r. ⌜ r ≡ atEnd count first sum next ⌝ }
+{
+    if count == 0 {
+        return Line::Refused(REFUSED_CHARACTERS);
+    }
+    if (first as usize) + 3 != count {
+        return Line::Refused(REFUSED_LENGTH);
+    }
+    if sum != 0 {
+        return Line::Refused(REFUSED_SUM);
+    }
+    Line::Octets {
+        count: count,
+        next: next,
+    }
+}
+
+// Reads the line that starts at a place of the text. The octets' running sum wraps, and is compared with zero at the line's end.
+pub fn read_line(text: &[u8], place: usize) -> Line
+    ensures { λ r. ⌜ r ≡ told place (frame (drop place (now (text .entry)))) ⌝ }
+{
+    let mut i = place;
+    let mut n: usize = 0;
+    let mut first: u8 = 0;
+    let mut sum: u8 = 0;
+    while i < text.len() {
+        let a = text[i];
+        if a == 0x0A {
+            return at_end(n, first, sum, i + 1);
+        }
+        let x = digit_value(a);
+        if 16 <= x {
+            return Line::Refused(REFUSED_CHARACTERS);
+        }
+        let j = i + 1;
+        if text.len() <= j {
+            return Line::Refused(REFUSED_CHARACTERS);
+        }
+        let y = digit_value(text[j]);
+        if 16 <= y {
+            return Line::Refused(REFUSED_CHARACTERS);
+        }
+        let o = x * 16 + y;
+        if n == 0 {
+            first = o;
+        }
+        sum = std::num::wrapping_add_u8(sum, o);
+        n += 1;
+        i += 2;
+    }
+    Line::Refused(REFUSED_CHARACTERS)
+}
+
+// The octet of two digits; 0 where one of the bytes is no digit.
+fn octet_of(high: u8, low: u8) -> u8
+    ensures { λ r. ⌜ r ≡ octetOf high low ⌝ }
+{
+    let x = digit_value(high);
+    if 16 <= x {
+        return 0;
+    }
+    let y = digit_value(low);
+    if 16 <= y {
+        return 0;
+    }
+    x * 16 + y
+}
+
+// The k-th octet of the line that starts at a place, which `read_line` accepted; 0 where no two digits stand there.
+pub fn octet_at(text: &[u8], place: usize, k: usize) -> u8
+    ensures { λ r. ⌜ r ≡ octetAt (drop place (now (text .entry))) k ⌝ }
+{
+    if text.len() <= place {
+        return 0;
+    }
+    let rest = text.len() - place;
+    if rest / 2 <= k {
+        return 0;
+    }
+    let high = place + 2 * k;
+    let low = high + 1;
+    octet_of(text[high], text[low])
+}
+
+// The digit of a value below 16.
+fn digit(d: u8) -> u8
+    requires { ⌜ d < 16 ⌝ }
+    ensures { λ r. ⌜ r ≡ line.digit d ⌝ }
+{
+    if d < 10 {
+        return 48 + d;
+    }
+    55 + d
+}
+
+// Puts the two digits of an octet at a place of the buffer.
+fn put_octet(buffer: &mut [u8], place: usize, octet: u8)
+    requires { ⌜ place + 1 < length (now buffer) ⌝ }
+    ensures { λ _. ⌜ now (buffer .exit) ≡ placed (now (buffer .entry)) place octet ⌝ }
+{
+    let next = place + 1;
+    buffer[place] = digit(octet / 16);
+    buffer[next] = digit(octet % 16);
+}
+
+// Writes one line at the start of the buffer, the unwritten rest of a longer one: length, kind, body, check octet, 0A.
+// Returns how many bytes that is. A body of more than 255 octets or too short a buffer gives 0, the buffer untouched.
+pub fn write_line(buffer: &mut [u8], kind: u8, body: &[u8]) -> usize
+    ensures { λ r. ⌜ (r ≡ writtenLength kind (now (body .entry)) (now (buffer .entry))) × (now (buffer .exit) ≡ writtenBuffer kind (now (body .entry)) (now (buffer .entry))) ⌝ }
+{
+    let n = body.len();
+    if 255 < n {
+        return 0;
+    }
+    let needed = 2 * n + 7;
+    if buffer.len() < needed {
+        return 0;
+    }
+    let length = n as u8;
+    put_octet(buffer, 0, length);
+    put_octet(buffer, 2, kind);
+    let mut sum = std::num::wrapping_add_u8(length, kind);
+    let mut k = 0;
+    while k < n {
+        let b = body[k];
+        put_octet(buffer, 2 * k + 4, b);
+        sum = std::num::wrapping_add_u8(sum, b);
+        k += 1;
+    }
+    put_octet(buffer, 2 * n + 4, std::num::wrapping_sub_u8(0, sum));
+    buffer[2 * n + 6] = 0x0A;
+    needed
+}
