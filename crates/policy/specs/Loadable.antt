@@ -1,0 +1,27 @@
+-- Whether some bundle loads to a record, memo aside (refusal 19).
+use Prim.Native.Nat.{ℕ}
+use mathlib.Core.Bool.{Bool, not, _&&_}
+use mathlib.Core.List.{List}
+use lib.ListN.{drop}
+use lib.Dec.{leb, eqb}
+use Rattle.common.specs.Lists.{every, below}
+use Rattle.closure.specs.Closure.{circular}
+use Rattle.policy.specs.declared.Record.{Record}
+use Rattle.policy.specs.Table.{Kind, hierarchy, prerequisite, kinds, count, columns, room, row, rows}
+use Rattle.policy.specs.Rows.{rowRefusal}
+
+-- each line of a kind's table is one that loading takes at its place
+abbrev pub rowsLoad : Record → Kind → ℕ → Bool
+rowsLoad r k n = every (λ i. eqb (rowRefusal k i r (row k i r)) 0) (below n)
+
+-- the places of a column from n on are zero
+abbrev pub zeroFrom : ℕ → List ℕ → Bool
+zeroFrom n c = every (λ x. eqb x 0) (drop n c)
+
+-- a kind's table: no more lines than there is room for, each one that loading takes, and the unused places zero
+unfoldable pub tableLoads : Record → Kind → Bool
+tableLoads r k = leb (count k r) (room k) && (rowsLoad r k (count k r) && every (zeroFrom (count k r)) (columns k r))
+
+-- every table loads, and neither the hierarchy nor the prerequisites hold a circle
+unfoldable pub loadable : Record → Bool
+loadable r = every (tableLoads r) kinds && (not (circular (rows hierarchy r)) && not (circular (rows prerequisite r)))

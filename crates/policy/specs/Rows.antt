@@ -1,0 +1,97 @@
+-- What each line of a kind's table is held to: the one check that loading and `loadable` share (refusals 5, 6 and 7).
+-- The numbers v are the line at place i of kind k's table. What they are held to stands in the tables before it and in the lines above it.
+-- Loading has i at the count, the first unused place; `loadable` goes through every i below the count.
+use Prim.Native.Nat.{ℕ, zero, suc, _+_, _*_}
+use mathlib.Core.Bool.{Bool, true, false, not, _&&_}
+use mathlib.Core.List.{List, [], _∷_}
+use lib.Dec.{ltb, leb, eqb}
+use Rattle.common.specs.Lists.{at}
+use Rattle.common.specs.Causes.{Cause, cause, first}
+use Rattle.common.specs.Refusals.{overLimit, outOfRange, notRising}
+use Rattle.policy.specs.declared.Record.{Record}
+use Rattle.policy.specs.Table.{Kind, head, user, edge, formula, demarcation, hierarchy, principal, exclusion, prerequisite, method, end, room, row}
+use Rattle.policy.specs.Op.{opOf, heightOf, height, formulaInRange}
+
+-- the kinds that are given a limit
+abbrev pub limited : Kind → Bool
+limited head = false
+limited user = false
+limited edge = true
+limited formula = true
+limited demarcation = true
+limited hierarchy = false
+limited principal = true
+limited exclusion = false
+limited prerequisite = false
+limited method = true
+limited end = false
+
+-- an edge's label is 0 to 15, and its ends are below the object count n
+abbrev pub edgeInRange : ℕ → ℕ → ℕ → ℕ → Bool
+edgeInRange n l x y = leb l 15 && (ltb x n && ltb y n)
+
+-- two different things below n
+abbrev pub pairInRange : ℕ → ℕ → ℕ → Bool
+pairInRange n a b = ltb a n && (ltb b n && not (eqb a b))
+
+-- the numbers are in range and name what there is
+unfoldable pub inRange : Kind → ℕ → Record → List ℕ → Bool
+inRange head i r v = eqb (at v 0) 1 && (leb 1 (at v 1) && leb (at v 1) 255)
+inRange user i r v = ltb (at v 0) (r .objects)
+inRange edge i r v = edgeInRange (r .objects) (at v 0) (at v 1) (at v 2)
+inRange formula i r v = formulaInRange i (at v 0) (at v 1) (at v 2) (heightOf (opOf (at v 0)) (at v 1) (at v 2) (height r i))
+inRange demarcation i r v = true
+inRange hierarchy i r v = pairInRange (r .«demarcation_count») (at v 0) (at v 1)
+inRange principal i r v = ltb (at v 0) (r .«formula_count») && ltb (at v 1) (r .«demarcation_count»)
+inRange exclusion i r v = ltb (at v 0) (at v 1) && ltb (at v 1) (r .«principal_count»)
+inRange prerequisite i r v = pairInRange (r .«principal_count») (at v 0) (at v 1)
+inRange method i r v = leb (at v 0) 1
+inRange end i r v = true
+
+-- rising kinds: by object, as a triple, as a pair. The key as one number
+abbrev pub rising : Kind → Bool
+rising head = false
+rising user = true
+rising edge = true
+rising formula = false
+rising demarcation = false
+rising hierarchy = true
+rising principal = false
+rising exclusion = true
+rising prerequisite = true
+rising method = false
+rising end = false
+
+abbrev pub edgeKey : ℕ → ℕ → ℕ → ℕ
+edgeKey l x y = l * 65536 + x * 256 + y
+
+abbrev pub pairKey : ℕ → ℕ → ℕ
+pairKey a b = a * 256 + b
+
+abbrev pub key : Kind → List ℕ → ℕ
+key head v = 0
+key user v = at v 0
+key edge v = edgeKey (at v 0) (at v 1) (at v 2)
+key formula v = 0
+key demarcation v = 0
+key hierarchy v = pairKey (at v 0) (at v 1)
+key principal v = 0
+key exclusion v = pairKey (at v 0) (at v 1)
+key prerequisite v = pairKey (at v 0) (at v 1)
+key method v = 0
+key end v = 0
+
+-- the least key that may stand at place i: one more than the key of the line before it
+abbrev pub leastKey : Kind → ℕ → Record → ℕ
+leastKey k zero r = 0
+leastKey k (suc i) r = key k (row k i r) + 1
+
+-- 5: one line over the kind's limit. 6: a number out of range or naming nothing. 7: not above the line before it
+abbrev pub causes : Bool → Bool → Bool → List Cause
+causes over out falls = cause overLimit over ∷ cause outOfRange out ∷ cause notRising falls ∷ []
+
+unfoldable pub rowCauses : Kind → ℕ → Record → List ℕ → List Cause
+rowCauses k i r v = causes (limited k && leb (room k) i) (not (inRange k i r v)) (rising k && ltb (key k v) (leastKey k i r))
+
+unfoldable pub rowRefusal : Kind → ℕ → Record → List ℕ → ℕ
+rowRefusal k i r v = first (rowCauses k i r v)

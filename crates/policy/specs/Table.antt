@@ -1,0 +1,243 @@
+-- The record: every kind of line is a table, a count and a column for each number of the line's body, in the order of the lines.
+use Prim.Native.Nat.{ℕ, _+_, _-_}
+use mathlib.Core.Bool.{Bool, false, cond}
+use mathlib.Core.List.{List, [], _∷_, _++_, map}
+use lib.ListN.{length, set, replicate}
+use lib.Dec.{eqb}
+use Rattle.common.specs.Lists.{at, table}
+use Rattle.policy.specs.declared.Record.{Record}
+use Rattle.policy.specs.declared.Memo.{Memo}
+
+pub data Kind : Type 0 where
+  head user edge formula demarcation hierarchy principal exclusion prerequisite method end : Kind
+
+-- the kind octet
+abbrev pub code : Kind → ℕ
+code head = 0x01
+code user = 0x02
+code edge = 0x03
+code formula = 0x04
+code demarcation = 0x05
+code hierarchy = 0x06
+code principal = 0x07
+code exclusion = 0x08
+code prerequisite = 0x09
+code method = 0x0A
+code end = 0xFF
+
+abbrev pub isKind : Kind → Kind → Bool
+isKind j k = eqb (code j) (code k)
+
+-- the kinds whose lines the record holds, in the order of the lines
+abbrev pub kinds : List Kind
+kinds = head ∷ user ∷ edge ∷ formula ∷ demarcation ∷ hierarchy ∷ principal ∷ exclusion ∷ prerequisite ∷ method ∷ []
+
+-- how many lines of a kind the record holds
+abbrev pub count : Kind → Record → ℕ
+count head r = 1
+count user r = r .«user_count»
+count edge r = r .«edge_count»
+count formula r = r .«formula_count»
+count demarcation r = r .«demarcation_count»
+count hierarchy r = r .«hierarchy_count»
+count principal r = r .«principal_count»
+count exclusion r = r .«exclusion_count»
+count prerequisite r = r .«prerequisite_count»
+count method r = r .«method_count»
+count end r = 0
+
+-- the columns of a kind's table (of the head: the version 1, the object count)
+abbrev pub columns : Kind → Record → List (List ℕ)
+columns head r = (1 ∷ []) ∷ (r .objects ∷ []) ∷ []
+columns user r = r .«user_objects» ∷ r .«user_roles» ∷ []
+columns edge r = r .«edge_labels» ∷ r .«edge_sources» ∷ r .«edge_targets» ∷ []
+columns formula r = r .«formula_ops» ∷ r .«formula_lefts» ∷ r .«formula_rights» ∷ []
+columns demarcation r = r .«demarcation_privileges» ∷ []
+columns hierarchy r = r .inferiors ∷ r .superiors ∷ []
+columns principal r = r .«principal_formulas» ∷ r .«principal_demarcations» ∷ []
+columns exclusion r = r .«exclusion_lows» ∷ r .«exclusion_highs» ∷ []
+columns prerequisite r = r .prerequisites ∷ r .dependents ∷ []
+columns method r = r .«method_forms» ∷ r .«method_privileges» ∷ []
+columns end r = []
+
+-- how many lines the table of a kind has room for
+abbrev pub room : Kind → ℕ
+room head = 1
+room user = 255
+room edge = 512
+room formula = 64
+room demarcation = 20
+room hierarchy = 380
+room principal = 20
+room exclusion = 190
+room prerequisite = 380
+room method = 32
+room end = 0
+
+-- the line at a place of a kind's table, as the numbers of its body; all of the lines
+abbrev pub row : Kind → ℕ → Record → List ℕ
+row k i r = map (λ c. at c i) (columns k r)
+
+abbrev pub rows : Kind → Record → List (List ℕ)
+rows k r = table (count k r) (λ i. row k i r)
+
+-- ---- records
+
+-- a memo that knows nothing, for the pair (object, requestor)
+unfoldable pub emptied : ℕ → ℕ → Memo
+emptied o s = record { object = o; requestor = s; known = replicate 64 false; value = replicate 64 false }
+
+-- the blank record: one object and nothing else
+unfoldable pub blank : Record
+blank =
+    record {
+      objects = 1;
+      «user_count» = 0;
+      «user_objects» = replicate 255 0;
+      «user_roles» = replicate 255 0;
+      «edge_count» = 0;
+      «edge_labels» = replicate 512 0;
+      «edge_sources» = replicate 512 0;
+      «edge_targets» = replicate 512 0;
+      «formula_count» = 0;
+      «formula_ops» = replicate 64 0;
+      «formula_lefts» = replicate 64 0;
+      «formula_rights» = replicate 64 0;
+      «demarcation_count» = 0;
+      «demarcation_privileges» = replicate 20 0;
+      «hierarchy_count» = 0;
+      inferiors = replicate 380 0;
+      superiors = replicate 380 0;
+      «principal_count» = 0;
+      «principal_formulas» = replicate 20 0;
+      «principal_demarcations» = replicate 20 0;
+      «exclusion_count» = 0;
+      «exclusion_lows» = replicate 190 0;
+      «exclusion_highs» = replicate 190 0;
+      «prerequisite_count» = 0;
+      prerequisites = replicate 380 0;
+      dependents = replicate 380 0;
+      «method_count» = 0;
+      «method_forms» = replicate 32 0;
+      «method_privileges» = replicate 32 0;
+      memo = emptied 0 0;
+    }
+
+-- a line of kind k is taken: of kind j's table the count is one more, and a column has v at the first unused place; other kinds' tables stay
+abbrev pub more : Kind → Kind → Record → ℕ
+more k j r = cond (isKind k j) (count j r + 1) (count j r)
+
+abbrev pub put : Kind → Kind → Record → List ℕ → ℕ → List ℕ
+put k j r column v = cond (isKind k j) (set column (count j r) v) column
+
+-- the record with one line more, of kind k and with the numbers v
+unfoldable pub appended : Kind → Record → List ℕ → Record
+appended k r v =
+    record {
+      objects = cond (isKind k head) (at v 1) (r .objects);
+      «user_count» = more k user r;
+      «user_objects» = put k user r (r .«user_objects») (at v 0);
+      «user_roles» = put k user r (r .«user_roles») (at v 1);
+      «edge_count» = more k edge r;
+      «edge_labels» = put k edge r (r .«edge_labels») (at v 0);
+      «edge_sources» = put k edge r (r .«edge_sources») (at v 1);
+      «edge_targets» = put k edge r (r .«edge_targets») (at v 2);
+      «formula_count» = more k formula r;
+      «formula_ops» = put k formula r (r .«formula_ops») (at v 0);
+      «formula_lefts» = put k formula r (r .«formula_lefts») (at v 1);
+      «formula_rights» = put k formula r (r .«formula_rights») (at v 2);
+      «demarcation_count» = more k demarcation r;
+      «demarcation_privileges» = put k demarcation r (r .«demarcation_privileges») (at v 0);
+      «hierarchy_count» = more k hierarchy r;
+      inferiors = put k hierarchy r (r .inferiors) (at v 0);
+      superiors = put k hierarchy r (r .superiors) (at v 1);
+      «principal_count» = more k principal r;
+      «principal_formulas» = put k principal r (r .«principal_formulas») (at v 0);
+      «principal_demarcations» = put k principal r (r .«principal_demarcations») (at v 1);
+      «exclusion_count» = more k exclusion r;
+      «exclusion_lows» = put k exclusion r (r .«exclusion_lows») (at v 0);
+      «exclusion_highs» = put k exclusion r (r .«exclusion_highs») (at v 1);
+      «prerequisite_count» = more k prerequisite r;
+      prerequisites = put k prerequisite r (r .prerequisites) (at v 0);
+      dependents = put k prerequisite r (r .dependents) (at v 1);
+      «method_count» = more k method r;
+      «method_forms» = put k method r (r .«method_forms») (at v 0);
+      «method_privileges» = put k method r (r .«method_privileges») (at v 1);
+      memo = r .memo;
+    }
+
+-- column j of the edges es, with the unused places zero
+abbrev pub column : ℕ → List (List ℕ) → List ℕ
+column j es = map (λ e. at e j) es ++ replicate (512 - length es) 0
+
+-- the record with these edges, in this order, and this memo
+unfoldable pub changed : Record → List (List ℕ) → Memo → Record
+changed r es m =
+    record {
+      objects = r .objects;
+      «user_count» = r .«user_count»;
+      «user_objects» = r .«user_objects»;
+      «user_roles» = r .«user_roles»;
+      «edge_count» = length es;
+      «edge_labels» = column 0 es;
+      «edge_sources» = column 1 es;
+      «edge_targets» = column 2 es;
+      «formula_count» = r .«formula_count»;
+      «formula_ops» = r .«formula_ops»;
+      «formula_lefts» = r .«formula_lefts»;
+      «formula_rights» = r .«formula_rights»;
+      «demarcation_count» = r .«demarcation_count»;
+      «demarcation_privileges» = r .«demarcation_privileges»;
+      «hierarchy_count» = r .«hierarchy_count»;
+      inferiors = r .inferiors;
+      superiors = r .superiors;
+      «principal_count» = r .«principal_count»;
+      «principal_formulas» = r .«principal_formulas»;
+      «principal_demarcations» = r .«principal_demarcations»;
+      «exclusion_count» = r .«exclusion_count»;
+      «exclusion_lows» = r .«exclusion_lows»;
+      «exclusion_highs» = r .«exclusion_highs»;
+      «prerequisite_count» = r .«prerequisite_count»;
+      prerequisites = r .prerequisites;
+      dependents = r .dependents;
+      «method_count» = r .«method_count»;
+      «method_forms» = r .«method_forms»;
+      «method_privileges» = r .«method_privileges»;
+      memo = m;
+    }
+
+-- the record with this memo
+unfoldable pub withMemo : Record → Memo → Record
+withMemo r m =
+    record {
+      objects = r .objects;
+      «user_count» = r .«user_count»;
+      «user_objects» = r .«user_objects»;
+      «user_roles» = r .«user_roles»;
+      «edge_count» = r .«edge_count»;
+      «edge_labels» = r .«edge_labels»;
+      «edge_sources» = r .«edge_sources»;
+      «edge_targets» = r .«edge_targets»;
+      «formula_count» = r .«formula_count»;
+      «formula_ops» = r .«formula_ops»;
+      «formula_lefts» = r .«formula_lefts»;
+      «formula_rights» = r .«formula_rights»;
+      «demarcation_count» = r .«demarcation_count»;
+      «demarcation_privileges» = r .«demarcation_privileges»;
+      «hierarchy_count» = r .«hierarchy_count»;
+      inferiors = r .inferiors;
+      superiors = r .superiors;
+      «principal_count» = r .«principal_count»;
+      «principal_formulas» = r .«principal_formulas»;
+      «principal_demarcations» = r .«principal_demarcations»;
+      «exclusion_count» = r .«exclusion_count»;
+      «exclusion_lows» = r .«exclusion_lows»;
+      «exclusion_highs» = r .«exclusion_highs»;
+      «prerequisite_count» = r .«prerequisite_count»;
+      prerequisites = r .prerequisites;
+      dependents = r .dependents;
+      «method_count» = r .«method_count»;
+      «method_forms» = r .«method_forms»;
+      «method_privileges» = r .«method_privileges»;
+      memo = m;
+    }

@@ -1,0 +1,117 @@
+// The policy record of document 01, the test whether some bundle loads to it, and the edits of its edges.
+
+ghost use mathlib.Core.Path.{_≡_};
+ghost use Rattle.policy.specs.Table as table;
+
+pub mod rows;
+
+// For one pair (object, requestor): which formulas have been evaluated, and what they came to.
+pub struct Memo {
+    pub object: u8,
+    pub requestor: u8,
+    pub known: [bool; 64],
+    pub value: [bool; 64],
+}
+
+// The rules of a bundle. Every kind of line is a table: a count, and a column for each number of the line's body.
+// Unused places are zero in a record that was loaded; one built by hand may hold anything.
+pub struct Record {
+    // Objects are 0 to objects - 1.
+    pub objects: u8,
+    // Kind 02: object, roles (role r has weight 2^r). Rising by object.
+    pub user_count: usize,
+    pub user_objects: [u8; 255],
+    pub user_roles: [u16; 255],
+    // Kind 03: label, from, to. Rising as a triple.
+    pub edge_count: usize,
+    pub edge_labels: [u8; 512],
+    pub edge_sources: [u8; 512],
+    pub edge_targets: [u8; 512],
+    // Kind 04: op, a, b.
+    pub formula_count: usize,
+    pub formula_ops: [u8; 64],
+    pub formula_lefts: [u8; 64],
+    pub formula_rights: [u8; 64],
+    // Kind 05: privileges (privilege k has weight 2^k).
+    pub demarcation_count: usize,
+    pub demarcation_privileges: [u64; 20],
+    // Kind 06: inferior, superior demarcation. Rising as a pair.
+    pub hierarchy_count: usize,
+    pub inferiors: [u8; 380],
+    pub superiors: [u8; 380],
+    // Kind 07: formula, demarcation.
+    pub principal_count: usize,
+    pub principal_formulas: [u8; 20],
+    pub principal_demarcations: [u8; 20],
+    // Kind 08: two principals, the lower first. Rising as a pair.
+    pub exclusion_count: usize,
+    pub exclusion_lows: [u8; 190],
+    pub exclusion_highs: [u8; 190],
+    // Kind 09: the second principal needs the first. Rising as a pair.
+    pub prerequisite_count: usize,
+    pub prerequisites: [u8; 380],
+    pub dependents: [u8; 380],
+    // Kind 0A: form (0 one-of, 1 all-of), privileges.
+    pub method_count: usize,
+    pub method_forms: [u8; 32],
+    pub method_privileges: [u64; 32],
+    // What earlier questions evaluated.
+    pub memo: Memo,
+}
+
+// What an edit answers: document 01's number, and the record.
+pub struct Edited {
+    pub number: u8,
+    pub rules: Record,
+}
+
+// A memo that knows nothing, for the pair (object, requestor).
+pub fn emptied(object: u8, requestor: u8) -> Memo
+    ensures { λ r. ⌜ r ≡ table.emptied object requestor ⌝ }
+{
+    Memo {
+        object: object,
+        requestor: requestor,
+        known: [false; 64],
+        value: [false; 64],
+    }
+}
+
+// The blank record: one object and nothing else.
+pub fn blank() -> Record
+    ensures { λ r. ⌜ r ≡ table.blank ⌝ }
+{
+    let memo = emptied(0, 0);
+    Record {
+        objects: 1,
+        user_count: 0,
+        user_objects: [0; 255],
+        user_roles: [0; 255],
+        edge_count: 0,
+        edge_labels: [0; 512],
+        edge_sources: [0; 512],
+        edge_targets: [0; 512],
+        formula_count: 0,
+        formula_ops: [0; 64],
+        formula_lefts: [0; 64],
+        formula_rights: [0; 64],
+        demarcation_count: 0,
+        demarcation_privileges: [0; 20],
+        hierarchy_count: 0,
+        inferiors: [0; 380],
+        superiors: [0; 380],
+        principal_count: 0,
+        principal_formulas: [0; 20],
+        principal_demarcations: [0; 20],
+        exclusion_count: 0,
+        exclusion_lows: [0; 190],
+        exclusion_highs: [0; 190],
+        prerequisite_count: 0,
+        prerequisites: [0; 380],
+        dependents: [0; 380],
+        method_count: 0,
+        method_forms: [0; 32],
+        method_privileges: [0; 32],
+        memo: memo,
+    }
+}
