@@ -7,7 +7,7 @@ use mathlib.Core.Bool.{Bool, true, false, _&&_, _||_}
 use mathlib.Core.List.{List, [], _∷_}
 use lib.ListN.{getD}
 use lib.Dec.{eqb}
-use Rattle.common.specs.Lists.{at, any}
+use Rattle.common.specs.Lists.{at, any, table}
 
 abbrev pub Rel : Type 1
 Rel = ℕ → ℕ → Type 0
@@ -37,6 +37,10 @@ abbrev pub On : List (List Bool) → Rel
 On m i j = getD (getD m i []) j false ≡ true
 
 -- ---- of a list of pairs
+
+-- the first n pairs of two columns of numbers
+abbrev pub pairsOf : ℕ → List ℕ → List ℕ → List (List ℕ)
+pairsOf n firsts seconds = table n (λ e. at firsts e ∷ at seconds e ∷ [])
 
 -- (i, j) is one of the pairs
 abbrev pub Listed : List (List ℕ) → Rel

@@ -1,14 +1,15 @@
 -- The closure fact, for any list of pairs: `reaches` is the reflexive and transitive closure, and `circular` finds its circles.
--- With it, what the code's closure of a relation says that agrees with a list of pairs.
-use Prim.Native.Nat.{ℕ, _<_}
+-- With it, lists of pairs that are joined, and what the code's closure of a relation says that agrees with a list of pairs.
+use Prim.Native.Nat.{ℕ, _+_, _<_}
 use mathlib.Core.Path.{_≡_, refl, sym, _∙_, subst, subst₂}
 use mathlib.Core.Logic.{_⊎_, inl, inr, ⊎-elim, _↔_, _≢_}
 use mathlib.Core.Bool.{Bool, true, false≢true, _&&_}
-use mathlib.Core.List.{List, [], _∷_}
+use mathlib.Core.List.{List, [], _∷_, _++_}
+use native.Mathlib.Numerals.{add-one}
 use borrow.Author.Tests.{eqb-true, eq-eqb}
 use Rattle.common.specs.Lists.{at, any}
 use Rattle.common.specs.BoolLaws.{and-cases, and-both, or-cases, or-left, or-right}
-use Rattle.closure.specs.Closure.{Rel, Star, here, step, Circle, Below, Closes, Listed, reaches, circular}
+use Rattle.closure.specs.Closure.{Rel, Star, here, step, Circle, Below, Closes, pairsOf, Listed, reaches, circular}
 
 -- ---- of any relation
 
@@ -24,6 +25,21 @@ pub star-one : {R : Rel} {i j : ℕ} → R i j → Star R i j
 star-one r = step r here
 
 -- ---- of a list of pairs
+
+pub listed-append : (ps qs : List (List ℕ)) (i j : ℕ) → (Listed (ps ++ qs) i j ↔ (Listed ps i j ⊎ Listed qs i j))
+listed-append [] qs i j = (λ l. inr l, ⊎-elim (λ l. absurd l) (λ l. l))
+listed-append (p ∷ ps) qs i j =
+    let e = listed-append ps qs i j in (
+      ⊎-elim (λ h. inl (inl h)) (λ l. ⊎-elim (λ x. inl (inr x)) (λ x. inr x) (e .0 l)),
+      ⊎-elim (⊎-elim (λ h. inl h) (λ x. inr (e .1 (inl x)))) (λ x. inr (e .1 (inr x))),
+    )
+
+-- one pair more, as a loop goes
+pub pairs-more : (n : ℕ) (firsts seconds : List ℕ) (i j : ℕ)
+    → (Listed (pairsOf (n + 1) firsts seconds) i j ↔ (Listed (pairsOf n firsts seconds) i j ⊎ ((at firsts n ≡ i) × (at seconds n ≡ j))))
+pairs-more n firsts seconds i j =
+    let e = listed-append (pairsOf n firsts seconds) ((at firsts n ∷ at seconds n ∷ []) ∷ []) i j in
+    rw add-one (λ l. ⊎-elim (λ x. inl x) (⊎-elim (λ x. inr x) (λ x. absurd x)) (e .0 l), ⊎-elim (λ x. e .1 (inl x)) (λ x. e .1 (inr (inl x))))
 
 abbrev To : List (List ℕ) → Rel
 To ps i j = reaches ps i j ≡ true

@@ -1,19 +1,52 @@
 // The reflexive and transitive closure of a relation on at most 20 things, and whether it holds a circle.
 
 ghost use mathlib.Core.Path.{_≡_};
-ghost use mathlib.Core.Logic.{_↔_};
+ghost use mathlib.Core.Logic.{_↔_, _⊎_};
 ghost use mathlib.Core.Bool.{true};
-ghost use Prim.Native.Nat.{min};
-ghost use Rattle.closure.specs.Closure.{On, Below, Star, Circle, Closes};
+ghost use Prim.Native.Nat.{ℕ, min, _<_};
+ghost use Rattle.closure.specs.Closure.{On, Listed, pairsOf, Below, Star, Circle, Closes};
 
-// How many things the loops below go through: the arrays have room for 20.
-fn at_most_20(count: usize) -> usize
-    ensures { λ r. ⌜ r ≡ min count 20 ⌝ }
+// How many of count things there is room for.
+fn at_most(count: usize, limit: usize) -> usize
+    ensures { λ r. ⌜ r ≡ min count limit ⌝ }
 {
-    if count < 20 {
+    if count < limit {
         return count;
     }
-    20
+    limit
+}
+
+// The relation that relates nothing.
+fn nothing() -> [[bool; 20]; 20]
+    ensures { λ r. ⌜ ((x y : ℕ) → x < 20 → y < 20 → On r x y → ⊥) ⌝ }
+{
+    [[false; 20]; 20]
+}
+
+// The relation m with the pair (i, j), which is passed over where it names a thing above 19.
+fn with_pair(m: [[bool; 20]; 20], i: u8, j: u8) -> [[bool; 20]; 20]
+    ensures { λ r. ⌜ ((x y : ℕ) → x < 20 → y < 20 → (On r x y ↔ (On m x y ⊎ ((i ≡ x) × (j ≡ y))))) ⌝ }
+{
+    let mut r = m;
+    let a = i as usize;
+    let b = j as usize;
+    if a < 20 && b < 20 {
+        r[a][b] = true;
+    }
+    r
+}
+
+// The relation that the first count pairs of two columns make: a pair that names a thing above 19 is passed over.
+pub fn related(firsts: [u8; 380], seconds: [u8; 380], count: usize) -> [[bool; 20]; 20]
+    ensures { λ r. ⌜ ((i j : ℕ) → i < 20 → j < 20 → (On r i j ↔ Listed (pairsOf (min count 380) firsts seconds) i j)) ⌝ }
+{
+    let n = at_most(count, 380);
+    let mut m = nothing();
+    for e in 0..n {
+        let more = with_pair(m, firsts[e], seconds[e]);
+        m = more;
+    }
+    m
 }
 
 // The closure of the relation m on the things below count. Row i is gone through only where i leads to k,
@@ -21,7 +54,7 @@ fn at_most_20(count: usize) -> usize
 pub fn closed(m: [[bool; 20]; 20], count: usize) -> [[bool; 20]; 20]
     ensures { λ r. ⌜ Closes (min count 20) (On m) (On r) ⌝ }
 {
-    let n = at_most_20(count);
+    let n = at_most(count, 20);
     let mut c = m;
     for k in 0..n {
         c[k][k] = true;
@@ -42,7 +75,7 @@ pub fn closed(m: [[bool; 20]; 20], count: usize) -> [[bool; 20]; 20]
 pub fn has_circle(c: [[bool; 20]; 20], count: usize) -> bool
     ensures { λ r. ⌜ (r ≡ true ↔ Circle (Below (min count 20) (On c))) ⌝ }
 {
-    let n = at_most_20(count);
+    let n = at_most(count, 20);
     for i in 0..n {
         for j in 0..n {
             if i != j && c[i][j] && c[j][i] {

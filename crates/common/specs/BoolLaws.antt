@@ -1,6 +1,6 @@
 -- What a conjunction or a disjunction of tests says.
-use mathlib.Core.Path.{_≡_, refl}
-use mathlib.Core.Logic.{_⊎_, inl, inr}
+use mathlib.Core.Path.{_≡_, refl, sym}
+use mathlib.Core.Logic.{_⊎_, inl, inr, _↔_}
 use mathlib.Core.Bool.{Bool, true, false, false≢true, _&&_, _||_}
 
 pub and-cases : (x y : Bool) → x && y ≡ true → (x ≡ true) × (y ≡ true)
@@ -15,6 +15,10 @@ pub and-false : (x : Bool) → x && false ≡ false
 and-false true = refl
 and-false false = refl
 
+pub and-true : (x : Bool) → x && true ≡ x
+and-true true = refl
+and-true false = refl
+
 pub or-cases : (x y : Bool) → x || y ≡ true → (x ≡ true) ⊎ (y ≡ true)
 or-cases true y e = inl refl
 or-cases false y e = inr e
@@ -26,3 +30,10 @@ or-left false y e = absurd (false≢true e)
 pub or-right : (x y : Bool) → y ≡ true → x || y ≡ true
 or-right true y e = refl
 or-right false y e = e
+
+-- tests that are passed together are the same
+pub same-test : (x y : Bool) → (x ≡ true ↔ y ≡ true) → x ≡ y
+same-test true true h = refl
+same-test true false h = sym (h .0 refl)
+same-test false true h = h .1 refl
+same-test false false h = refl

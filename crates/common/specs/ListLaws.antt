@@ -1,5 +1,5 @@
 -- Laws of lists: by places, and quantifiers over a table row by row.
-use Prim.Native.Nat.{ℕ, zero, suc, _+_, _<_}
+use Prim.Native.Nat.{ℕ, suc, _+_, _<_}
 use mathlib.Core.Path.{_≡_, refl, _∙_, ap}
 use mathlib.Core.Bool.{Bool, true, false, _&&_, _||_}
 use mathlib.Core.List.{List, [], _∷_, _++_}
@@ -8,6 +8,7 @@ use native.Mathlib.Numerals.{add-one}
 use lib.ListN.{length, drop}
 use lib.Seq.{drop-cons}
 use Rattle.common.specs.Lists.{at, any, every, table}
+use Rattle.common.specs.BoolLaws.{and-true}
 
 -- what is left at a place: the number there, and what is left at the next
 pub drop-one : (s : List ℕ) (i : ℕ) → i < length s → drop i s ≡ at s i ∷ drop (i + 1) s
@@ -44,8 +45,4 @@ module _ {A : Type 0} (p : A → Bool) where
       go false = refl
 
   pub every-more : (n : ℕ) (f : ℕ → A) → every p (table (suc n) f) ≡ (every p (table n f) && p (f n))
-  every-more n f = every-append (table n f) (f n ∷ []) ∙ ap (λ (b : Bool). every p (table n f) && b) (go (p (f n)))
-    where
-      go : (b : Bool) → (b && true) ≡ b
-      go true = refl
-      go false = refl
+  every-more n f = every-append (table n f) (f n ∷ []) ∙ ap (λ (b : Bool). every p (table n f) && b) (and-true (p (f n)))

@@ -4,3 +4,4 @@ pub mod Rows
 pub mod Loadable
 pub mod Edits
 pub mod OpLaws
+pub mod LoadableLaws

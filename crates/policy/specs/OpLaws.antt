@@ -13,8 +13,16 @@ use Rattle.policy.specs.Op.{unknown, opOf, partsInRange, heightOf}
 op-above : (op : ℕ) → 8 < op → opOf op ≡ unknown
 op-above op l =
     rw (
-    ne-eqb op 0 (λ e. omega arith), ne-eqb op 1 (λ e. omega arith), ne-eqb op 2 (λ e. omega arith), ne-eqb op 3 (λ e. omega arith), ne-eqb op 4 (λ e. omega arith),
-    ne-eqb op 5 (λ e. omega arith), ne-eqb op 6 (λ e. omega arith), ne-eqb op 7 (λ e. omega arith), ne-eqb op 8 (λ e. omega arith))
+      ne-eqb op 0 (λ e. omega arith),
+      ne-eqb op 1 (λ e. omega arith),
+      ne-eqb op 2 (λ e. omega arith),
+      ne-eqb op 3 (λ e. omega arith),
+      ne-eqb op 4 (λ e. omega arith),
+      ne-eqb op 5 (λ e. omega arith),
+      ne-eqb op 6 (λ e. omega arith),
+      ne-eqb op 7 (λ e. omega arith),
+      ne-eqb op 8 (λ e. omega arith),
+    )
 
 -- a range of two numbers
 either : (n m : ℕ) → n ≤ m → m ≤ n + 1 → (m ≡ n) ⊎ (m ≡ n + 1)

@@ -3,6 +3,7 @@
 ghost use mathlib.Core.Path.{_≡_};
 ghost use Rattle.policy.specs.Table as table;
 
+pub mod loadable;
 pub mod rows;
 
 // For one pair (object, requestor): which formulas have been evaluated, and what they came to.

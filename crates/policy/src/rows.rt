@@ -3,14 +3,16 @@
 
 ghost use mathlib.Core.Path.{_≡_};
 ghost use mathlib.Core.Bool.{true, false, not, _&&_};
-ghost use Prim.Native.Nat.{ℕ, max, _<_};
+ghost use Prim.Native.Nat.{ℕ, max, _+_, _<_};
 ghost use lib.Dec.{ltb, leb, eqb};
 ghost use Rattle.common.specs.Lists.{at};
 ghost use Rattle.common.specs.Causes.{first};
 ghost use Rattle.policy.specs.Op.{opOf, partsInRange, heightOf, formulaInRange};
 ghost use Rattle.policy.specs.Rows.{causes, edgeInRange, pairInRange, edgeKey, pairKey};
-
-use common::{ACCEPTED, REFUSED_LIMIT, REFUSED_ORDER, REFUSED_RANGE};
+use common::ACCEPTED;
+use common::REFUSED_LIMIT;
+use common::REFUSED_ORDER;
+use common::REFUSED_RANGE;
 
 // The first cause that is there: over the limit, out of range, not rising.
 pub fn first_cause(over: bool, out: bool, falls: bool) -> u8
@@ -26,6 +28,25 @@ pub fn first_cause(over: bool, out: bool, falls: bool) -> u8
         return REFUSED_ORDER;
     }
     ACCEPTED
+}
+
+// The least key that may follow a user, an edge, a pair.
+pub fn after_user(object: u8) -> u32
+    ensures { λ r. ⌜ r ≡ object + 1 ⌝ }
+{
+    (object as u32) + 1
+}
+
+pub fn after_edge(label: u8, source: u8, target: u8) -> u32
+    ensures { λ r. ⌜ r ≡ edgeKey label source target + 1 ⌝ }
+{
+    (label as u32) * 65536 + (source as u32) * 256 + (target as u32) + 1
+}
+
+pub fn after_pair(a: u8, b: u8) -> u32
+    ensures { λ r. ⌜ r ≡ pairKey a b + 1 ⌝ }
+{
+    (a as u32) * 256 + (b as u32) + 1
 }
 
 // Kind 02.
@@ -132,7 +153,13 @@ pub fn pair_refusal(things: usize, least: u32, a: u8, b: u8) -> u8
 }
 
 // Kind 07.
-pub fn principal_refusal(place: usize, formulas: usize, demarcations: usize, formula: u8, demarcation: u8) -> u8
+pub fn principal_refusal(
+    place: usize,
+    formulas: usize,
+    demarcations: usize,
+    formula: u8,
+    demarcation: u8,
+) -> u8
     ensures { λ r. ⌜ r ≡ first (causes (leb 20 place) (not (ltb formula formulas && ltb demarcation demarcations)) false) ⌝ }
 {
     let fits = ((formula as usize) < formulas) & ((demarcation as usize) < demarcations);

@@ -31,9 +31,9 @@ Inv-loop count n c₀ k₀ c k = Upto n (On c₀) k (On c) × Square 20 c × (k 
 abbrev μ-loop : tie.MeasureT-loop
 μ-loop count n c₀ k₀ c k = n - k
 
-at-most-20-requires :
-    tie.Need-at-most-20-requires Inv-loop3 μ-loop3 Inv-loop2 μ-loop2 Inv-loop μ-loop
-at-most-20-requires c κs = search needs
+at-most-requires :
+    tie.Need-at-most-requires Inv-loop3 μ-loop3 Inv-loop2 μ-loop2 Inv-loop μ-loop
+at-most-requires c κs = search needs
 
 loop-holds : tie.Need-loop-holds Inv-loop3 μ-loop3 Inv-loop2 μ-loop2 Inv-loop μ-loop
 loop-holds c = (upto-start, square-of 20 (c .before .args .m) _ (c .before .good .0), omega arith)
@@ -130,7 +130,7 @@ loop-again c =
 returns : tie.Need-returns Inv-loop3 μ-loop3 Inv-loop2 μ-loop2 Inv-loop μ-loop
 returns c =
     let a = c .before in
-    rw (← a .before .at-most-20 .ensures) (upto-end (a .loop .inv .0) (omega arith))
+    rw (← a .before .at-most .ensures) (upto-end (a .loop .inv .0) (omega arith))
 
 pub closed-spec : {M : Type 1} → statement M
 closed-spec =
@@ -142,7 +142,7 @@ closed-spec =
     μ-loop2
     Inv-loop
     μ-loop
-    at-most-20-requires
+    at-most-requires
     loop-holds
     mul-c
     index-1-c

@@ -27,8 +27,8 @@ Inv-loop count c n i₀ i = (i ≤ n) × ((x : ℕ) → x < i → (y : ℕ) → 
 abbrev μ-loop : tie.MeasureT-loop
 μ-loop count c n i₀ i = n - i
 
-at-most-20-requires : tie.Need-at-most-20-requires Inv-loop2 μ-loop2 Inv-loop μ-loop
-at-most-20-requires c κs = search needs
+at-most-requires : tie.Need-at-most-requires Inv-loop2 μ-loop2 Inv-loop μ-loop
+at-most-requires c κs = search needs
 
 loop-holds : tie.Need-loop-holds Inv-loop2 μ-loop2 Inv-loop μ-loop
 loop-holds c = (omega arith, λ x l. absurd (omega arith))
@@ -93,7 +93,7 @@ loop-again c =
     let a = c .before in
     let b = a .before .before in (
       omega arith,
-      below-more (λ (x : ℕ). (y : ℕ) → y < b .before .at-most-20 .result → Fine (b .before .before .args .t1) x y) _ (b .loop .inv .1)
+      below-more (λ (x : ℕ). (y : ℕ) → y < b .before .at-most .result → Fine (b .before .before .args .t1) x y) _ (b .loop .inv .1)
           (λ y l. a .loop2 .inv .1 y (omega arith)),
     )
 
@@ -111,7 +111,7 @@ has-circle-spec =
     μ-loop2
     Inv-loop
     μ-loop
-    at-most-20-requires
+    at-most-requires
     loop-holds
     loop2-holds
     mul-if2

@@ -1,6 +1,6 @@
 -- `pair_refusal` meets its contract.
 use mathlib.Core.Path.{_∙_}
-use mathlib.Core.Bool.{false, not, _&&_}
+use mathlib.Core.Bool.{false, not}
 use lib.Dec.{ltb}
 use Rattle.common.specs.Causes.{first}
 use Rattle.policy.specs.Rows.{causes, pairInRange}

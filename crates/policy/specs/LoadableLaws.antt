@@ -1,0 +1,123 @@
+-- Laws of `Loadable`: the hierarchy's and the prerequisites' tables are tables of pairs, and what their closures and circles are.
+use Prim.Native.Nat.{ℕ, zero, suc, _≤_, _<_}
+use mathlib.Core.Path.{_≡_, refl, sym, _∙_, ap, subst₂}
+use mathlib.Core.Logic.{⊎-elim}
+use mathlib.Core.Bool.{Bool, true, false, false≢true, not, _&&_}
+use mathlib.Core.List.{List, [], _∷_}
+use lib.Dec.{ltb, leb, eqb}
+use borrow.Author.Tests.{ltb-true, leb-true, le-leb, eqb-false, not-true}
+use Rattle.common.specs.Lists.{at, every, below}
+use Rattle.common.specs.ListLaws.{every-more}
+use Rattle.common.specs.BoolLaws.{and-cases, and-true, and-false}
+use Rattle.common.specs.Causes.{first}
+use Rattle.closure.specs.Closure.{Listed, pairsOf, circular}
+use Rattle.closure.specs.ClosureFact.{listed-append}
+use Rattle.policy.specs.declared.Record.{Record}
+use Rattle.policy.specs.Table.{Kind, head, user, edge, formula, demarcation, hierarchy, principal, exclusion, prerequisite, method, count, room, row, rows}
+use Rattle.policy.specs.Rows.{causes, pairInRange, pairKey, inRange, rowCauses, rowRefusal}
+use Rattle.policy.specs.Loadable.{zeroFrom, leastPair, pairRefusal, pairsLoad, tableLoads, loadable}
+
+module _ (r : Record) where
+  pub hierarchy-pairs : pairsLoad (r .«demarcation_count») (r .«hierarchy_count») (r .inferiors) (r .superiors) ≡ tableLoads r hierarchy
+  unfolding pairsLoad tableLoads rowRefusal rowCauses inRange
+  hierarchy-pairs =
+      λ j. leb (r .«hierarchy_count») 380
+      && (every (λ i. eqb (same-row i j) 0) (below (r .«hierarchy_count»)) && every (zeroFrom (r .«hierarchy_count»)) (r .inferiors ∷ r .superiors ∷ []))
+    where
+      same-row : (i : ℕ) → pairRefusal (r .«demarcation_count») (r .inferiors) (r .superiors) i ≡ rowRefusal hierarchy i r (row hierarchy i r)
+      same-row zero = refl
+      same-row (suc i) = refl
+
+  pub prerequisite-pairs : pairsLoad (r .«principal_count») (r .«prerequisite_count») (r .prerequisites) (r .dependents) ≡ tableLoads r prerequisite
+  unfolding pairsLoad tableLoads rowRefusal rowCauses inRange
+  prerequisite-pairs =
+      λ j. leb (r .«prerequisite_count») 380
+      && (every (λ i. eqb (same-row i j) 0) (below (r .«prerequisite_count»)) && every (zeroFrom (r .«prerequisite_count»)) (r .prerequisites ∷ r .dependents ∷ []))
+    where
+      same-row : (i : ℕ) → pairRefusal (r .«principal_count») (r .prerequisites) (r .dependents) i ≡ rowRefusal prerequisite i r (row prerequisite i r)
+      same-row zero = refl
+      same-row (suc i) = refl
+
+-- ---- a table of pairs that loads names different things, all of them there
+
+in-range : (x y : Bool) → eqb (first (causes false (not x) y)) 0 ≡ true → x ≡ true
+in-range true y e = refl
+in-range false y e = absurd (false≢true e)
+
+pairs-in-range : (things n : ℕ) (a b : List ℕ) → every (λ i. eqb (pairRefusal things a b i) 0) (below n) ≡ true → (i j : ℕ) → Listed (pairsOf n a b) i j → pairInRange things i j ≡ true
+pairs-in-range things zero a b e i j l = absurd l
+pairs-in-range things (suc n) a b e i j l =
+    let h = and-cases _ _ (sym (every-more (λ x. eqb (pairRefusal things a b x) 0) n (λ x. x)) ∙ e) in
+    let p = in-range (pairInRange things (at a n) (at b n)) (ltb (pairKey (at a n) (at b n)) (leastPair n a b)) (h .1) in
+    ⊎-elim
+    (λ m. pairs-in-range things n a b (h .0) i j m)
+    (λ m. ⊎-elim (λ s. subst₂ (λ (x y : ℕ). pairInRange things x y ≡ true) (s .0) (s .1) p) (λ z. absurd z) m)
+    (listed-append (pairsOf n a b) ((at a n ∷ at b n ∷ []) ∷ []) i j .0 l)
+
+module _ (things n : ℕ) (a b : List ℕ) (loads : pairsLoad things n a b ≡ true) where
+  all-rows : every (λ i. eqb (pairRefusal things a b i) 0) (below n) ≡ true
+  unfolding pairsLoad
+  all-rows = and-cases _ _ (and-cases (leb n 380) _ loads .1) .0
+
+  pub pairs-few : n ≤ 380
+  unfolding pairsLoad
+  pairs-few = leb-true n 380 (and-cases (leb n 380) _ loads .0)
+
+  pub pairs-named : (i j : ℕ) → Listed (pairsOf n a b) i j → (i < things) × (j < things)
+  pairs-named i j l =
+      let p = and-cases (ltb i things) _ (pairs-in-range things n a b all-rows i j l) in
+      (ltb-true i things (p .0), ltb-true j things (and-cases (ltb j things) _ (p .1) .0))
+
+  pub pairs-proper : (i : ℕ) → Listed (pairsOf n a b) i i → ⊥
+  pairs-proper i l =
+      let p = and-cases (ltb i things) _ (pairs-in-range things n a b all-rows i i l) in
+      eqb-false i i (not-true (eqb i i) (and-cases (ltb i things) _ (p .1) .1)) refl
+
+-- ---- the parts of `loadable`
+
+-- kinds 02 to 05, and 06 to 0A
+abbrev pub graphLoads : Record → Bool
+graphLoads r = tableLoads r user && (tableLoads r edge && (tableLoads r formula && tableLoads r demarcation))
+
+abbrev pub groundsLoad : Record → Bool
+groundsLoad r = tableLoads r hierarchy && (tableLoads r principal && (tableLoads r exclusion && (tableLoads r prerequisite && tableLoads r method)))
+
+abbrev pub noCircles : Record → Bool
+noCircles r = not (circular (rows hierarchy r)) && not (circular (rows prerequisite r))
+
+and-assoc : (x y z : Bool) → x && (y && z) ≡ (x && y) && z
+and-assoc true y z = refl
+and-assoc false y z = refl
+
+pub loadable-parts : (r : Record) → loadable r ≡ ((tableLoads r head && (graphLoads r && groundsLoad r)) && noCircles r)
+unfolding loadable
+loadable-parts r =
+    ap (λ (b : Bool). (tableLoads r head && b) && noCircles r)
+    (simp and-true (simp and-assoc))
+
+module _ (r : Record) where
+  -- the head's table: at least one object
+  head-none : r .objects ≡ 0 → tableLoads r head ≡ false
+  unfolding tableLoads rowRefusal rowCauses inRange
+  head-none e = rw e
+
+  head-some : 1 ≤ r .objects → r .objects ≤ 255 → tableLoads r head ≡ true
+  unfolding tableLoads rowRefusal rowCauses inRange
+  head-some l h = rw (le-leb 1 (r .objects) l, le-leb (r .objects) 255 h)
+
+  pub loadable-no-objects : r .objects ≡ 0 → false ≡ loadable r
+  loadable-no-objects e = sym (loadable-parts r ∙ rw (head-none e))
+
+  pub loadable-no-graph : graphLoads r ≡ false → false ≡ loadable r
+  loadable-no-graph e = sym (loadable-parts r ∙ rw (e, and-false (tableLoads r head)))
+
+  pub loadable-no-grounds : groundsLoad r ≡ false → false ≡ loadable r
+  loadable-no-grounds e = sym (loadable-parts r ∙ rw (e, and-false (graphLoads r), and-false (tableLoads r head)))
+
+  pub loadable-all : 1 ≤ r .objects → r .objects ≤ 255 → graphLoads r ≡ true → groundsLoad r ≡ true → noCircles r ≡ loadable r
+  loadable-all l h e f = sym (loadable-parts r ∙ rw (e, f, head-some l h))
+
+-- a table that loads has no more lines than there is room for
+pub table-few : (r : Record) (k : Kind) → tableLoads r k ≡ true → count k r ≤ room k
+unfolding tableLoads
+table-few r k e = leb-true (count k r) (room k) (and-cases (leb (count k r) (room k)) _ e .0)
