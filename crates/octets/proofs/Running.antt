@@ -1,5 +1,5 @@
 -- Reading a line octet by octet: what the line is once the octets `os` have been read and the text `t` is left.
-use Prim.Native.Nat.{ℕ, suc, _+_, _-_, _*_, _%_, _≤_, _<_}
+use Prim.Native.Nat.{ℕ, suc, _+_, _-_, _*_, _%_, _^_, _≤_, _<_}
 use mathlib.Core.Path.{_≡_, refl, sym, _∙_, ap}
 use mathlib.Core.Logic.{_⊎_, inl, inr, ⊎-elim, _≢_}
 use mathlib.Core.Bool.{Bool, true, false, cond, _&&_}
@@ -8,10 +8,11 @@ use native.Mathlib.Omega.{arith}
 use native.Mathlib.Nat.{zero-add, add-zero}
 use lib.ListN.{length, drop, length-append, drop-of-length-le}
 use lib.Dec.{ltb, eqb}
-use borrow.Author.Tests.{lt-ltb, le-ltb, ne-eqb}
+use borrow.Author.Tests.{lt-ltb, le-ltb, ne-eqb, eqb-true}
 use Rattle.common.specs.Lists.{at}
 use Rattle.common.specs.ListLaws.{drop-one, drop-two}
 use Rattle.common.specs.BoolLaws.{and-false}
+use Rattle.common.specs.Refusals.{wrongCharacters, wrongLength, wrongSum}
 use Rattle.octets.specs.Line.{digitValue, isDigit, octet, lineOf, ended, pairs, octetsOf, total, Framed, refused, octets, judged, frame}
 use Rattle.octets.specs.LineLaws.{not-end}
 use Rattle.octets.specs.Answers.{told, atEnd}
@@ -96,19 +97,21 @@ other₂ os a b t ne h = rw (line-more a (b ∷ t) ne) (from-none os _ _ (go (eq
 
 -- ---- the loop of `read_line`
 
--- at i, n octets have been read, with this first one and this sum modulo 256
-pub record Run (s : List ℕ) (place i n first sum : ℕ) : Type 0 where
+-- at i, n octets have been read, with this first one, this sum modulo 256 and this plain sum modulo 2^64
+pub record Run (s : List ℕ) (place i n first sum plain : ℕ) : Type 0 where
   pub os : List ℕ
   pub same : frame (drop place s) ≡ fromText os (drop i s)
   pub count : n ≡ length os
   pub head : first ≡ at os 0
   pub low : first < 256
   pub adds : sum ≡ total os % 256
+  pub whole : plain ≡ total os % 2 ^ 64
+  pub most : total os ≤ 255 * length os
   pub stands : i ≡ place + 2 * n
 
-pub run-start : (s : List ℕ) (place : ℕ) → Run s place place 0 0 0
+pub run-start : (s : List ℕ) (place : ℕ) → Run s place place 0 0 0 0
 run-start s place =
-    record { os = []; same = start (drop place s); count = refl; head = refl; low = omega arith; adds = refl; stands = omega arith }
+    record { os = []; same = start (drop place s); count = refl; head = refl; low = omega arith; adds = refl; whole = refl; most = omega arith; stands = omega arith }
 
 total-more : (os : List ℕ) (x : ℕ) → total (os ++ x ∷ []) ≡ total os + x
 total-more [] x = omega arith
@@ -118,11 +121,11 @@ head-more : (os : List ℕ) (x : ℕ) → ((length os ≡ 0) × (at (os ++ x ∷
 head-more [] x = inl (refl, refl)
 head-more (o ∷ os) x = inr (omega arith, refl)
 
-module _ {s : List ℕ} {place i n first sum : ℕ} (r : Run s place i n first sum) where
+module _ {s : List ℕ} {place i n first sum plain : ℕ} (r : Run s place i n first sum plain) where
   -- a pair of digits is read
   pub run-more : (first′ : ℕ) → i + 1 < length s → digitValue (at s i) < 16 → digitValue (at s (i + 1)) < 16
       → ((n ≡ 0) × (first′ ≡ octet (at s i) (at s (i + 1)))) ⊎ ((n ≢ 0) × (first′ ≡ first))
-      → Run s place (i + 2) (n + 1) first′ ((sum + octet (at s i) (at s (i + 1))) % 256)
+      → Run s place (i + 2) (n + 1) first′ ((sum + octet (at s i) (at s (i + 1))) % 256) ((plain + octet (at s i) (at s (i + 1))) % 2 ^ 64)
   run-more first′ l la lb f =
       let o = octet (at s i) (at s (i + 1)) in
       let h = head-more (r .os) o in
@@ -136,6 +139,8 @@ module _ {s : List ℕ} {place i n first sum : ℕ} (r : Run s place i n first s
             f;
         low = ⊎-elim (λ p. omega arith) (λ p. omega arith) f;
         adds = omega (arith, total-more (r .os) o);
+        whole = omega (arith, total-more (r .os) o);
+        most = omega (arith, total-more (r .os) o, length-append (r .os) (o ∷ []));
         stands = omega arith;
       }
 
@@ -158,27 +163,31 @@ module _ {s : List ℕ} {place i n first sum : ℕ} (r : Run s place i n first s
     run-other₂ ne k h = r .same ∙ ap (fromText (r .os)) (drop-two s i k) ∙ other₂ (r .os) _ _ (drop (i + 2) s) ne h
 
     -- the line's end
-    pub run-end : at s i ≡ 10 → atEnd n first sum (i + 1) ≡ told place (frame (drop place s))
+    pub run-end : at s i ≡ 10 → atEnd n first sum (i + 1) plain ≡ told place (frame (drop place s))
     unfolding atEnd
     run-end e =
-        let f : frame (drop place s) ≡ cond (ltb 0 (length (r .os))) (judged (r .os)) (refused 1) =
+        let f : frame (drop place s) ≡ cond (ltb 0 (length (r .os))) (judged (r .os)) (refused wrongCharacters) =
         r .same ∙ ap (fromText (r .os)) (drop-one s i l ∙ ap (λ (b : ℕ). b ∷ drop (i + 1) s) e) ∙ at-end (r .os) (drop (i + 1) s) in
         let m : i + 1 ≡ place + 2 * length (r .os) + 1 = omega (arith, r .count, r .stands) in
-        (λ j. cond (eqb (r .count j) 0) (Refused 1)
-        (cond (eqb (r .head j + 3) (r .count j)) (cond (eqb (r .adds j) 0) (Octets (r .count j) (m j)) (Refused 3)) (Refused 2)))
-        ∙ pick (r .os) (eqb (at (r .os) 0 + 3) (length (r .os))) (eqb (total (r .os) % 256) 0)
+        (λ j. cond (eqb (r .count j) 0) (Refused wrongCharacters)
+        (cond (eqb (r .head j + 3) (r .count j)) (cond (eqb (r .adds j) 0) (Octets (r .count j) (m j) plain) (Refused wrongSum)) (Refused wrongLength)))
+        ∙ pick (r .os) plain (eqb (at (r .os) 0 + 3) (length (r .os))) (eqb (total (r .os) % 256) 0) (λ t. exact (eqb-true _ _ t))
         ∙ ap (told place) (sym f)
       where
+        -- a line that is not too long has a sum that fits
+        exact : at (r .os) 0 + 3 ≡ length (r .os) → plain ≡ total (r .os)
+        exact h = omega (arith, r .head, r .low, r .whole, r .most)
+
         some : (os : List ℕ) → ltb 0 (suc (length os)) ≡ true
         some os = lt-ltb 0 (suc (length os)) (omega arith)
 
         none : (os : List ℕ) → eqb (suc (length os)) 0 ≡ false
         none os = ne-eqb (suc (length os)) 0 (λ z. omega arith)
 
-        pick : (os : List ℕ) (y z : Bool)
-            → cond (eqb (length os) 0) (Refused 1) (cond y (cond z (Octets (length os) (place + 2 * length os + 1)) (Refused 3)) (Refused 2))
-            ≡ told place (cond (ltb 0 (length os)) (cond y (cond z (octets os) (refused 3)) (refused 2)) (refused 1))
-        pick [] y z = refl
-        pick (o ∷ os) true true = rw (some os, none os)
-        pick (o ∷ os) true false = rw (some os, none os)
-        pick (o ∷ os) false z = rw (some os, none os)
+        pick : (os : List ℕ) (p : ℕ) (y z : Bool) → (y ≡ true → p ≡ total os)
+            → cond (eqb (length os) 0) (Refused wrongCharacters) (cond y (cond z (Octets (length os) (place + 2 * length os + 1) p) (Refused wrongSum)) (Refused wrongLength))
+            ≡ told place (cond (ltb 0 (length os)) (cond y (cond z (octets os) (refused wrongSum)) (refused wrongLength)) (refused wrongCharacters))
+        pick [] p y z h = refl
+        pick (o ∷ os) p true true h = rw (some os, none os) (ap (Octets (length (o ∷ os)) (place + 2 * length (o ∷ os) + 1)) (h refl))
+        pick (o ∷ os) p true false h = rw (some os, none os)
+        pick (o ∷ os) p false z h = rw (some os, none os)

@@ -6,24 +6,24 @@ use lib.ListN.{length, drop, set}
 use lib.Dec.{leb, eqb}
 use Rattle.common.specs.Lists.{at}
 use Rattle.common.specs.Refusals.{wrongCharacters, wrongLength, wrongSum}
-use Rattle.octets.specs.Line.{Framed, refused, octets, isDigit, octet, digit, framed, lineBytes}
+use Rattle.octets.specs.Line.{Framed, refused, octets, total, isDigit, octet, digit, framed, lineBytes}
 use Rattle.octets.specs.declared.Line.{Line}
 use Rattle.octets.specs.declared.Line.the-variants.{Refused, Octets}
 
--- of a line at a place: the number that refuses it; or how many octets it has, and the place of the next line
+-- of a line at a place: the number that refuses it; or how many octets it has, the place of the next line, and the octets' plain sum
 abbrev pub told : ℕ → Framed → Line
 told place (refused k) = Refused k
-told place (octets os) = Octets (length os) (place + 2 * length os + 1)
+told place (octets os) = Octets (length os) (place + 2 * length os + 1) (total os)
 
 -- document 01's number of that answer: 0 for an accepted line
 abbrev pub numberOf : Line → ℕ
 numberOf (Refused k) = k
-numberOf (Octets count next) = 0
+numberOf (Octets count next sum) = 0
 
--- the same at the line's end, from the count of octets, the first octet and the sum of all modulo 256
-unfoldable pub atEnd : ℕ → ℕ → ℕ → ℕ → Line
-atEnd count first sum next =
-    cond (eqb count 0) (Refused wrongCharacters) (cond (eqb (first + 3) count) (cond (eqb sum 0) (Octets count next) (Refused wrongSum)) (Refused wrongLength))
+-- the same at the line's end, from the count of octets, the first octet, the sum of all modulo 256, the next place and the plain sum
+unfoldable pub atEnd : ℕ → ℕ → ℕ → ℕ → ℕ → Line
+atEnd count first sum next plain =
+    cond (eqb count 0) (Refused wrongCharacters) (cond (eqb (first + 3) count) (cond (eqb sum 0) (Octets count next plain) (Refused wrongSum)) (Refused wrongLength))
 
 -- the octet of two bytes; 0 where one of them is no digit
 unfoldable pub octetOf : ℕ → ℕ → ℕ

@@ -10,7 +10,8 @@ use Rattle.common.specs.Lists.{at}
 use Rattle.octets.specs.Number.{numberFrom, number, inOctets}
 use Rattle.octets.specs.WritingLaws.{Octets, octets-append, octets-take, last-of, octet-at-place}
 
-number-last : (v : ℕ) (os : List ℕ) (o : ℕ) → numberFrom v (os ++ (o ∷ [])) ≡ numberFrom v os * 256 + o
+-- one octet more, at the low end
+pub number-last : (v : ℕ) (os : List ℕ) (o : ℕ) → numberFrom v (os ++ (o ∷ [])) ≡ numberFrom v os * 256 + o
 number-last v [] o = refl
 number-last v (x ∷ os) o = number-last (v * 256 + x) os o
 

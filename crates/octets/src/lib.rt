@@ -14,8 +14,12 @@ use common::REFUSED_SUM;
 pub enum Line {
     // Refused with document 01's number 1, 2 or 3.
     Refused(u8),
-    // So many octets, and the place where the next line starts.
-    Octets { count: usize, next: usize },
+    // So many octets, the place where the next line starts, and the plain sum of the octets.
+    Octets {
+        count: usize,
+        next: usize,
+        total: usize,
+    },
 }
 
 // The value of a digit; 16 where the byte is none.
@@ -37,9 +41,9 @@ pub fn digit_value(c: u8) -> u8
     16
 }
 
-// What a line is at its end, by its count of octets, the first octet and the sum of all.
-fn at_end(count: usize, first: u8, sum: u8, next: usize) -> Line
-    ensures { λ r. ⌜ r ≡ atEnd count first sum next ⌝ }
+// What a line is at its end, by its count of octets, the first octet, and the sum of all, modulo 256 and plain.
+fn at_end(count: usize, first: u8, sum: u8, next: usize, total: usize) -> Line
+    ensures { λ r. ⌜ r ≡ atEnd count first sum next total ⌝ }
 {
     if count == 0 {
         return Line::Refused(REFUSED_CHARACTERS);
@@ -53,6 +57,7 @@ fn at_end(count: usize, first: u8, sum: u8, next: usize) -> Line
     Line::Octets {
         count: count,
         next: next,
+        total: total,
     }
 }
 
@@ -64,10 +69,11 @@ pub fn read_line(text: &[u8], place: usize) -> Line
     let mut n: usize = 0;
     let mut first: u8 = 0;
     let mut sum: u8 = 0;
+    let mut total: usize = 0;
     while i < text.len() {
         let a = text[i];
         if a == 0x0A {
-            return at_end(n, first, sum, i + 1);
+            return at_end(n, first, sum, i + 1, total);
         }
         let x = digit_value(a);
         if 16 <= x {
@@ -86,6 +92,7 @@ pub fn read_line(text: &[u8], place: usize) -> Line
             first = o;
         }
         sum = std::num::wrapping_add_u8(sum, o);
+        total = std::num::wrapping_add_usize(total, o as usize);
         n += 1;
         i += 2;
     }

@@ -4,4 +4,7 @@ pub mod Rows
 pub mod Loadable
 pub mod Edits
 pub mod OpLaws
+pub mod RowLaws
 pub mod LoadableLaws
+pub mod TableLaws
+pub mod HeightLaws

@@ -2,7 +2,7 @@
 use Prim.Native.Nat.{ℕ, zero, suc, _≤_, _<_}
 use mathlib.Core.Path.{_≡_, refl, sym, _∙_, ap, subst₂}
 use mathlib.Core.Logic.{⊎-elim}
-use mathlib.Core.Bool.{Bool, true, false, false≢true, not, _&&_}
+use mathlib.Core.Bool.{Bool, true, false, false≢true, not, _&&_, _||_}
 use mathlib.Core.List.{List, [], _∷_}
 use lib.Dec.{ltb, leb, eqb}
 use borrow.Author.Tests.{ltb-true, leb-true, le-leb, eqb-false, not-true}
@@ -13,7 +13,7 @@ use Rattle.common.specs.Causes.{first}
 use Rattle.closure.specs.Closure.{Listed, pairsOf, circular}
 use Rattle.closure.specs.ClosureFact.{listed-append}
 use Rattle.policy.specs.declared.Record.{Record}
-use Rattle.policy.specs.Table.{Kind, head, user, edge, formula, demarcation, hierarchy, principal, exclusion, prerequisite, method, count, room, row, rows}
+use Rattle.policy.specs.Table.{Kind, head, user, edge, formula, demarcation, hierarchy, principal, exclusion, prerequisite, method, end, count, room, row, rows}
 use Rattle.policy.specs.Rows.{causes, pairInRange, pairKey, inRange, rowCauses, rowRefusal}
 use Rattle.policy.specs.Loadable.{zeroFrom, leastPair, pairRefusal, pairsLoad, tableLoads, loadable}
 
@@ -85,6 +85,13 @@ groundsLoad r = tableLoads r hierarchy && (tableLoads r principal && (tableLoads
 abbrev pub noCircles : Record → Bool
 noCircles r = not (circular (rows hierarchy r)) && not (circular (rows prerequisite r))
 
+pub no-circles : (r : Record) → not (circular (rows hierarchy r) || circular (rows prerequisite r)) ≡ noCircles r
+no-circles r = go (circular (rows hierarchy r)) (circular (rows prerequisite r))
+  where
+    go : (x y : Bool) → not (x || y) ≡ (not x && not y)
+    go true y = refl
+    go false y = refl
+
 and-assoc : (x y z : Bool) → x && (y && z) ≡ (x && y) && z
 and-assoc true y z = refl
 and-assoc false y z = refl
@@ -101,7 +108,12 @@ module _ (r : Record) where
   unfolding tableLoads rowRefusal rowCauses inRange
   head-none e = rw e
 
-  head-some : 1 ≤ r .objects → r .objects ≤ 255 → tableLoads r head ≡ true
+  -- there are no end lines to load
+  end-loads : tableLoads r end ≡ true
+  unfolding tableLoads
+  end-loads = refl
+
+  pub head-some : 1 ≤ r .objects → r .objects ≤ 255 → tableLoads r head ≡ true
   unfolding tableLoads rowRefusal rowCauses inRange
   head-some l h = rw (le-leb 1 (r .objects) l, le-leb (r .objects) 255 h)
 
@@ -114,8 +126,47 @@ module _ (r : Record) where
   pub loadable-no-grounds : groundsLoad r ≡ false → false ≡ loadable r
   loadable-no-grounds e = sym (loadable-parts r ∙ rw (e, and-false (graphLoads r), and-false (tableLoads r head)))
 
+  -- every kind's table
+  pub all-load : 1 ≤ r .objects → r .objects ≤ 255 → graphLoads r ≡ true → groundsLoad r ≡ true → (j : Kind) → tableLoads r j ≡ true
+  all-load l h e f = each
+    where
+      g : (tableLoads r edge && (tableLoads r formula && tableLoads r demarcation)) ≡ true
+      g = and-cases (tableLoads r user) _ e .1
+
+      m : (tableLoads r formula && tableLoads r demarcation) ≡ true
+      m = and-cases (tableLoads r edge) _ g .1
+
+      p : (tableLoads r principal && (tableLoads r exclusion && (tableLoads r prerequisite && tableLoads r method))) ≡ true
+      p = and-cases (tableLoads r hierarchy) _ f .1
+
+      q : (tableLoads r exclusion && (tableLoads r prerequisite && tableLoads r method)) ≡ true
+      q = and-cases (tableLoads r principal) _ p .1
+
+      s : (tableLoads r prerequisite && tableLoads r method) ≡ true
+      s = and-cases (tableLoads r exclusion) _ q .1
+
+      each : (j : Kind) → tableLoads r j ≡ true
+      each head = head-some l h
+      each user = and-cases (tableLoads r user) _ e .0
+      each edge = and-cases (tableLoads r edge) _ g .0
+      each formula = and-cases (tableLoads r formula) _ m .0
+      each demarcation = and-cases (tableLoads r formula) _ m .1
+      each hierarchy = and-cases (tableLoads r hierarchy) _ f .0
+      each principal = and-cases (tableLoads r principal) _ p .0
+      each exclusion = and-cases (tableLoads r exclusion) _ q .0
+      each prerequisite = and-cases (tableLoads r prerequisite) _ s .0
+      each method = and-cases (tableLoads r prerequisite) _ s .1
+      each end = end-loads
+
   pub loadable-all : 1 ≤ r .objects → r .objects ≤ 255 → graphLoads r ≡ true → groundsLoad r ≡ true → noCircles r ≡ loadable r
   loadable-all l h e f = sym (loadable-parts r ∙ rw (e, f, head-some l h))
+
+-- the head's table says that there are 1 to 255 objects
+pub head-range : (r : Record) → tableLoads r head ≡ true → (1 ≤ r .objects) × (r .objects ≤ 255)
+unfolding tableLoads rowRefusal rowCauses inRange
+head-range r e =
+    let p = and-cases (leb 1 (r .objects)) (leb (r .objects) 255) (in-range (leb 1 (r .objects) && leb (r .objects) 255) false (and-cases _ true (and-cases _ true e .0) .0)) in
+    (leb-true 1 (r .objects) (p .0), leb-true (r .objects) 255 (p .1))
 
 -- a table that loads has no more lines than there is room for
 pub table-few : (r : Record) (k : Kind) → tableLoads r k ≡ true → count k r ≤ room k

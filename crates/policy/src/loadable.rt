@@ -1,10 +1,10 @@
 // Whether some bundle loads to a record, memo aside: the test behind refusal 19.
 
 ghost use mathlib.Core.Path.{_≡_};
-ghost use mathlib.Core.Bool.{true, _&&_};
+ghost use mathlib.Core.Bool.{true, _&&_, _||_};
 ghost use Prim.Native.Nat.{_≤_};
 ghost use Rattle.closure.specs.Closure.{pairsOf, circular};
-ghost use Rattle.policy.specs.Table.{head, user, edge, formula, demarcation, hierarchy, principal, exclusion, prerequisite, method};
+ghost use Rattle.policy.specs.Table.{Kind, rows, user, edge, formula, demarcation, hierarchy, principal, exclusion, prerequisite, method};
 ghost use Rattle.policy.specs.Loadable.{zeroFrom, pairsLoad, tableLoads};
 ghost use Rattle.policy.specs.Loadable as spec;
 use crate::Record;
@@ -265,19 +265,11 @@ fn pairs_circular(things: usize, count: usize, firsts: [u8; 380], seconds: [u8; 
     closure::circular(relation, things)
 }
 
-// Every table loads, and neither the hierarchy nor the prerequisites hold a circle.
-pub fn loadable(rules: Record) -> bool
-    ensures { λ r. ⌜ r ≡ spec.loadable rules ⌝ }
+// Whether the hierarchy or the prerequisites hold a circle, in a record whose tables load.
+pub fn has_circles(rules: Record) -> bool
+    requires { ⌜ ((j : Kind) → tableLoads rules j ≡ true) ⌝ }
+    ensures { λ r. ⌜ r ≡ (circular (rows hierarchy rules) || circular (rows prerequisite rules)) ⌝ }
 {
-    if rules.objects == 0 {
-        return false;
-    }
-    if !graph_loads(rules) {
-        return false;
-    }
-    if !grounds_load(rules) {
-        return false;
-    }
     let inferiors = rules.inferiors;
     let superiors = rules.superiors;
     let ranks = pairs_circular(
@@ -294,5 +286,21 @@ pub fn loadable(rules: Record) -> bool
         needed,
         needing,
     );
-    !ranks & !needs
+    ranks | needs
+}
+
+// Every table loads, and neither the hierarchy nor the prerequisites hold a circle.
+pub fn loadable(rules: Record) -> bool
+    ensures { λ r. ⌜ r ≡ spec.loadable rules ⌝ }
+{
+    if rules.objects == 0 {
+        return false;
+    }
+    if !graph_loads(rules) {
+        return false;
+    }
+    if !grounds_load(rules) {
+        return false;
+    }
+    !has_circles(rules)
 }

@@ -30,6 +30,14 @@ pub fn first_cause(over: bool, out: bool, falls: bool) -> u8
     ACCEPTED
 }
 
+// Kind 01: version 1, and at least one object.
+pub fn head_refusal(version: u8, objects: u8) -> u8
+    ensures { λ r. ⌜ r ≡ first (causes false (not (eqb version 1 && (leb 1 objects && leb objects 255))) false) ⌝ }
+{
+    let fits = (version == 1) & (1 <= objects);
+    first_cause(false, !fits, false)
+}
+
 // The least key that may follow a user, an edge, a pair.
 pub fn after_user(object: u8) -> u32
     ensures { λ r. ⌜ r ≡ object + 1 ⌝ }
@@ -135,6 +143,13 @@ pub fn formula_refusal(place: usize, op: u8, a: u8, b: u8, height: u8) -> u8
 {
     let fits = parts_in_range(place, op, a, b) & (height <= 8);
     first_cause(64 <= place, !fits, false)
+}
+
+// Kind 05: no number is out of range.
+pub fn demarcation_refusal(place: usize) -> u8
+    ensures { λ r. ⌜ r ≡ first (causes (leb 20 place) false false) ⌝ }
+{
+    first_cause(20 <= place, false, false)
 }
 
 // A pair's key, by which pairs rise.

@@ -1,6 +1,6 @@
 -- `read_line` meets its contract. The loop's invariant is `Run`: the octets read so far, and what is left of the text, are the line.
-use Prim.Native.Nat.{ℕ, _-_, _+_, _%_}
-use mathlib.Core.Path.{_≡_, sym, _∙_, ap, subst}
+use Prim.Native.Nat.{ℕ, _-_, _+_, _*_, _%_, _^_, _<_}
+use mathlib.Core.Path.{_≡_, sym, _∙_, ap, subst, subst₂}
 use mathlib.Core.Logic.{inl, inr, ⊎-elim}
 use native.Mathlib.Omega.{arith}
 use borrow.Author.Needs.{needs}
@@ -13,10 +13,10 @@ use Rattle.octets.proofs.read_line.Statement.{statement}
 use Rattle.octets.proofs.read_line.Tie as tie
 
 abbrev Inv-loop : tie.InvT-loop
-Inv-loop text place i₀ n₀ first₀ sum₀ i n first sum = Run text place i n first sum
+Inv-loop text place i₀ n₀ first₀ sum₀ total₀ i n first sum total = Run text place i n first sum total
 
 abbrev μ-loop : tie.MeasureT-loop
-μ-loop text place i₀ n₀ first₀ sum₀ i n first sum = length text - i
+μ-loop text place i₀ n₀ first₀ sum₀ total₀ i n first sum total = length text - i
 
 loop-holds : tie.Need-loop-holds Inv-loop μ-loop
 loop-holds c = run-start _ _
@@ -78,6 +78,12 @@ add-o c = omega arith
 wrapping-add-u8-requires : tie.Need-wrapping-add-u8-requires Inv-loop μ-loop
 wrapping-add-u8-requires c κs = search needs
 
+cast-wrapping-add-usize : tie.Need-cast-wrapping-add-usize Inv-loop μ-loop
+cast-wrapping-add-usize c = omega arith
+
+wrapping-add-usize-requires : tie.Need-wrapping-add-usize-requires Inv-loop μ-loop
+wrapping-add-usize-requires c κs = search needs
+
 add-n : tie.Need-add-n Inv-loop μ-loop
 add-n c = omega arith
 
@@ -89,18 +95,23 @@ loop-less c = omega arith
 
 loop-again : tie.Need-loop-again Inv-loop μ-loop
 loop-again c =
-    let v = c .before .before in
-    let w = v .before .before .before .before .before in
+    let u = c .before in
+    let v = u .before .before in
+    let b = v .before .before in
+    let w = b .before .before .before in
     let a = w .before .before in
     let h = a .before .before in
     let s = h .before .before .args .text .now in
     let i = h .loop .i in
     let x : w .digit-value .result ≡ digitValue (at s i) = w .digit-value .ensures in
     let y : v .before .digit-value2 .result ≡ digitValue (at s (i + 1)) = v .before .digit-value2 .ensures in
-    let e : c .wrapping-add-u8 .result ≡ (h .loop .sum + octet (at s i) (at s (i + 1))) % 256 = omega arith in
-    subst (λ (z : ℕ). Run s (h .before .before .args .place) (i + 2) (h .loop .n + 1) (c .before .if5 .first) z) (sym e)
-    (run-more (h .loop .inv) (c .before .if5 .first) (omega arith) (omega arith) (omega arith)
-    (⊎-elim (λ f. inl (f .0 .taken, omega arith)) (λ f. inr (f .0 .left, f .1)) (c .before .if5 .came)))
+    let e : u .wrapping-add-u8 .result ≡ (h .loop .sum + octet (at s i) (at s (i + 1))) % 256 = u .wrapping-add-u8 .ensures ∙ (λ t. (h .loop .sum + (x t * 16 + y t)) % 256) in
+    let f : c .wrapping-add-usize .result ≡ (h .loop .total + octet (at s i) (at s (i + 1))) % 2 ^ 64 =
+    c .wrapping-add-usize .ensures ∙ (λ t. (h .loop .total + (x t * 16 + y t)) % 2 ^ 64) in
+    subst₂ (λ (z t : ℕ). Run s (h .before .before .args .place) (i + 2) (h .loop .n + 1) (u .before .if5 .first) z t) (sym e) (sym f)
+    (run-more (h .loop .inv) (u .before .if5 .first) (b .before .if3 .left)
+    (subst (λ (z : ℕ). z < 16) x (b .before .before .if2 .left)) (subst (λ (z : ℕ). z < 16) y (v .if4 .left))
+    (⊎-elim (λ f. inl (f .0 .taken, f .1 ∙ (λ t. x t * 16 + y t))) (λ f. inr (f .0 .left, f .1)) (u .before .if5 .came)))
 
 returns-5 : tie.Need-returns-5 Inv-loop μ-loop
 returns-5 c =
@@ -128,6 +139,8 @@ read-line-spec =
     mul-o
     add-o
     wrapping-add-u8-requires
+    cast-wrapping-add-usize
+    wrapping-add-usize-requires
     add-n
     add-i
     loop-less

@@ -2,10 +2,12 @@
 use Prim.Native.Nat.{_-_, _≤_}
 use mathlib.Core.Path.{_≡_, refl, _∙_}
 use native.Mathlib.Omega.{arith}
+use Rattle.common.specs.Lists.{at}
 use Rattle.policy.specs.Table.{edge}
 use Rattle.policy.specs.Rows.{leastKey}
+use Rattle.policy.specs.RowLaws.{edge-values}
 use Rattle.policy.proofs.Zero.{zeros-three}
-use Rattle.policy.proofs.Tables.{Fits, fits-none, fits-more, least-more, table-over, table-all, edge-row}
+use Rattle.policy.proofs.Tables.{Fits, fits-none, fits-more, least-more, table-over, table-all}
 use borrow.Author.Needs.{needs}
 use Rattle.policy.proofs.loadable.edges_load.Statement.{statement}
 use Rattle.policy.proofs.loadable.edges_load.Tie as tie
@@ -47,7 +49,7 @@ loop-again : tie.Need-loop-again Inv-loop μ-loop
 loop-again c =
     let h = c .before .before .before .before .before .before in
     let r = h .before .before .args .t1 in
-    (fits-more (h .loop .inv .0) (c .before .edge-refusal .ensures ∙ edge-row r (h .loop .i) (h .loop .inv .1)), least-more r edge (h .loop .i) (c .after-edge .ensures), omega arith)
+    (fits-more (h .loop .inv .0) (c .before .edge-refusal .ensures ∙ edge-values r (h .loop .i) (at (r .«edge_labels») (h .loop .i)) (at (r .«edge_sources») (h .loop .i)) (at (r .«edge_targets») (h .loop .i)) (h .loop .inv .1)), least-more r edge (h .loop .i) (c .after-edge .ensures), omega arith)
 
 zero-from-requires : tie.Need-zero-from-requires Inv-loop μ-loop
 zero-from-requires c κs = search needs

@@ -2,10 +2,12 @@
 use Prim.Native.Nat.{_-_, _≤_}
 use mathlib.Core.Path.{_≡_, refl, _∙_}
 use native.Mathlib.Omega.{arith}
+use Rattle.common.specs.Lists.{at}
 use Rattle.policy.specs.Table.{exclusion}
 use Rattle.policy.specs.Rows.{leastKey}
+use Rattle.policy.specs.RowLaws.{exclusion-values}
 use Rattle.policy.proofs.Zero.{zeros-two}
-use Rattle.policy.proofs.Tables.{Fits, fits-none, fits-more, least-more, table-over, table-all, exclusion-row}
+use Rattle.policy.proofs.Tables.{Fits, fits-none, fits-more, least-more, table-over, table-all}
 use borrow.Author.Needs.{needs}
 use Rattle.policy.proofs.loadable.exclusions_load.Statement.{statement}
 use Rattle.policy.proofs.loadable.exclusions_load.Tie as tie
@@ -44,7 +46,7 @@ loop-again : tie.Need-loop-again Inv-loop μ-loop
 loop-again c =
     let h = c .before .before .before .before .before in
     let r = h .before .before .args .t1 in
-    (fits-more (h .loop .inv .0) (c .before .exclusion-refusal .ensures ∙ exclusion-row r (h .loop .i) (h .loop .inv .1)), least-more r exclusion (h .loop .i) (c .after-pair .ensures), omega arith)
+    (fits-more (h .loop .inv .0) (c .before .exclusion-refusal .ensures ∙ exclusion-values r (h .loop .i) (at (r .«exclusion_lows») (h .loop .i)) (at (r .«exclusion_highs») (h .loop .i)) (h .loop .inv .1)), least-more r exclusion (h .loop .i) (c .after-pair .ensures), omega arith)
 
 zero-from-requires : tie.Need-zero-from-requires Inv-loop μ-loop
 zero-from-requires c κs = search needs

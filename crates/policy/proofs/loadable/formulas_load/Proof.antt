@@ -4,8 +4,10 @@ use mathlib.Core.Path.{_∙_}
 use native.Mathlib.Omega.{arith}
 use Rattle.common.specs.Lists.{at}
 use Rattle.policy.specs.Table.{formula}
+use Rattle.policy.specs.RowLaws.{formula-values}
+use Rattle.policy.specs.HeightLaws.{Heights, heights-none, heights-low, height-here, heights-more}
 use Rattle.policy.proofs.Zero.{zeros-three}
-use Rattle.policy.proofs.Tables.{Fits, fits-none, fits-more, table-over, table-all, Heights, heights-none, heights-low, height-here, heights-more, formula-row}
+use Rattle.policy.proofs.Tables.{Fits, fits-none, fits-more, table-over, table-all}
 use borrow.Author.Needs.{needs}
 use Rattle.policy.proofs.loadable.formulas_load.Statement.{statement}
 use Rattle.policy.proofs.loadable.formulas_load.Tie as tie
@@ -51,7 +53,7 @@ loop-again c =
     let h = c .before .before .before .before .before .before in
     let r = h .before .before .args .t1 in
     let x = height-here (h .loop .inv .1) (at (r .«formula_ops») (h .loop .i)) (at (r .«formula_lefts») (h .loop .i)) (at (r .«formula_rights») (h .loop .i)) (c .before .formula-height .ensures) in
-    (fits-more (h .loop .inv .0) (c .formula-refusal .ensures ∙ formula-row (h .loop .inv .1) x), heights-more (h .loop .inv .1) (omega arith) x, omega arith)
+    (fits-more (h .loop .inv .0) (c .formula-refusal .ensures ∙ formula-values r (h .loop .i) (at (r .«formula_ops») (h .loop .i)) (at (r .«formula_lefts») (h .loop .i)) (at (r .«formula_rights») (h .loop .i)) x), heights-more (h .loop .inv .1) (omega arith) x, omega arith)
 
 zero-from-requires : tie.Need-zero-from-requires Inv-loop μ-loop
 zero-from-requires c κs = search needs

@@ -2,9 +2,11 @@
 use Prim.Native.Nat.{_-_, _≤_}
 use mathlib.Core.Path.{_∙_}
 use native.Mathlib.Omega.{arith}
+use Rattle.common.specs.Lists.{at}
 use Rattle.policy.specs.Table.{method}
+use Rattle.policy.specs.RowLaws.{method-values}
 use Rattle.policy.proofs.Zero.{zeros-two}
-use Rattle.policy.proofs.Tables.{Fits, fits-none, fits-more, table-over, table-all, method-row}
+use Rattle.policy.proofs.Tables.{Fits, fits-none, fits-more, table-over, table-all}
 use borrow.Author.Needs.{needs}
 use Rattle.policy.proofs.loadable.methods_load.Statement.{statement}
 use Rattle.policy.proofs.loadable.methods_load.Tie as tie
@@ -36,7 +38,7 @@ loop-less c = search needs
 loop-again : tie.Need-loop-again Inv-loop μ-loop
 loop-again c =
     let h = c .before .before .before in
-    (fits-more (h .loop .inv .0) (c .method-refusal .ensures ∙ method-row (h .before .before .args .t1) (h .loop .i)), omega arith)
+    (fits-more (h .loop .inv .0) (c .method-refusal .ensures ∙ method-values (h .before .before .args .t1) (h .loop .i) (at (h .before .before .args .t1 .«method_forms») (h .loop .i)) (at (h .before .before .args .t1 .«method_privileges») (h .loop .i))), omega arith)
 
 zero-from-requires : tie.Need-zero-from-requires Inv-loop μ-loop
 zero-from-requires c κs = search needs

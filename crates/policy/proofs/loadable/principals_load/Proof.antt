@@ -2,9 +2,11 @@
 use Prim.Native.Nat.{_-_, _≤_}
 use mathlib.Core.Path.{_∙_}
 use native.Mathlib.Omega.{arith}
+use Rattle.common.specs.Lists.{at}
 use Rattle.policy.specs.Table.{principal}
+use Rattle.policy.specs.RowLaws.{principal-values}
 use Rattle.policy.proofs.Zero.{zeros-two}
-use Rattle.policy.proofs.Tables.{Fits, fits-none, fits-more, table-over, table-all, principal-row}
+use Rattle.policy.proofs.Tables.{Fits, fits-none, fits-more, table-over, table-all}
 use borrow.Author.Needs.{needs}
 use Rattle.policy.proofs.loadable.principals_load.Statement.{statement}
 use Rattle.policy.proofs.loadable.principals_load.Tie as tie
@@ -39,7 +41,7 @@ loop-less c = search needs
 loop-again : tie.Need-loop-again Inv-loop μ-loop
 loop-again c =
     let h = c .before .before .before .before in
-    (fits-more (h .loop .inv .0) (c .principal-refusal .ensures ∙ principal-row (h .before .before .args .t1) (h .loop .i)), omega arith)
+    (fits-more (h .loop .inv .0) (c .principal-refusal .ensures ∙ principal-values (h .before .before .args .t1) (h .loop .i) (at (h .before .before .args .t1 .«principal_formulas») (h .loop .i)) (at (h .before .before .args .t1 .«principal_demarcations») (h .loop .i))), omega arith)
 
 zero-from-requires : tie.Need-zero-from-requires Inv-loop μ-loop
 zero-from-requires c κs = search needs

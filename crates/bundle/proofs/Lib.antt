@@ -1,0 +1,7 @@
+mod Nexts
+mod Numbers
+mod Lines
+mod Going
+mod Bodies
+mod Rooms
+mod Ends

@@ -1,0 +1,129 @@
+-- Why the tables without a limit of their own have room: their lines rise, and there are only so many in range.
+use Prim.Native.Nat.{ℕ, zero, suc, _+_, _-_, _*_, _≤_, _<_}
+use mathlib.Core.Path.{_≡_, sym, subst}
+use mathlib.Core.Logic.{_≢_, _⊎_, inl, inr, ⊎-elim}
+use mathlib.Core.Bool.{true, false, not, _&&_}
+use native.Mathlib.Omega.{arith}
+use native.Mathlib.Nat.{zero-add, suc-add}
+use native.Mathlib.Decide.{decLt}
+use lib.Dec.{ltb, eqb}
+use borrow.Author.Tests.{ltb-true, ltb-false, eqb-false, not-true, not-false}
+use Rattle.common.specs.BoolLaws.{and-cases}
+use Rattle.common.specs.Causes.{first}
+use Rattle.policy.specs.Rows.{causes, pairInRange, pairKey}
+use Rattle.policy.specs.RowLaws.{passed}
+
+-- ---- users: by object
+
+pub record UserRoom (least n : ℕ) : Type 0 where
+  pub most : n ≤ least
+
+pub user-none : (n : ℕ) → n ≡ 0 → UserRoom 0 n
+user-none n e = record { most = omega arith }
+
+module _ {least n : ℕ} (u : UserRoom least n) (objects o : ℕ) (e : first (causes false (not (ltb o objects)) (ltb o least)) ≡ 0) where
+  user-order : n ≤ o
+  user-order = let l = ltb-false o least (passed false (not (ltb o objects)) (ltb o least) e .2) in let m = u .most in omega arith
+
+  pub user-room : objects ≤ 255 → n < 255
+  user-room h = let l = ltb-true o objects (not-false (ltb o objects) (passed false (not (ltb o objects)) (ltb o least) e .1)) in let m = user-order in omega arith
+
+  pub user-more : {m after : ℕ} → after ≡ o + 1 → m ≡ n + 1 → UserRoom after m
+  user-more g f = let m = user-order in record { most = omega arith }
+
+-- ---- pairs of different things below 20, as pairs rise: so many before (a, b)
+
+pub record PairRoom (least n : ℕ) : Type 0 where
+  pub down : (a b : ℕ) → a < 20 → b < a → least ≤ pairKey a b → n ≤ 19 * a + b
+  pub up : (a b : ℕ) → b < 20 → a < b → least ≤ pairKey a b → n + 1 ≤ 19 * a + b
+
+pub pair-none : (n : ℕ) → n ≡ 0 → PairRoom 0 n
+pair-none n e = record { down = λ a b l h k. omega arith; up = λ a b l h k. omega arith }
+
+other-side : (a b : ℕ) → a ≢ b → Dec (a < b) → (a < b) ⊎ (b < a)
+other-side a b h (yes l) = inl l
+other-side a b h (no k) = inr (omega arith)
+
+module _ {least n : ℕ} (u : PairRoom least n) (things a b : ℕ) (few : things ≤ 20) (e : first (causes false (not (pairInRange things a b)) (ltb (pairKey a b) least)) ≡ 0) where
+  in-range : pairInRange things a b ≡ true
+  in-range = not-false (pairInRange things a b) (passed false (not (pairInRange things a b)) (ltb (pairKey a b) least) e .1)
+
+  low : a < 20
+  low = let l = ltb-true a things (and-cases (ltb a things) _ in-range .0) in omega arith
+
+  high : b < 20
+  high = let l = ltb-true b things (and-cases (ltb b things) _ (and-cases (ltb a things) _ in-range .1) .0) in omega arith
+
+  sides : (a < b) ⊎ (b < a)
+  sides = other-side a b (eqb-false a b (not-true (eqb a b) (and-cases (ltb b things) _ (and-cases (ltb a things) _ in-range .1) .1))) (decLt a b)
+
+  order : least ≤ pairKey a b
+  order = ltb-false (pairKey a b) least (passed false (not (pairInRange things a b)) (ltb (pairKey a b) least) e .2)
+
+  pub pair-room : n < 380
+  pair-room = let h = low in let k = high in ⊎-elim (λ l. omega (arith, u .up a b k l order)) (λ l. omega (arith, u .down a b h l order)) sides
+
+  pub pair-more : {m after : ℕ} → after ≡ pairKey a b + 1 → m ≡ n + 1 → PairRoom after m
+  pair-more g f =
+      let h = low in
+      let k = high in
+      ⊎-elim
+      (λ l. let q = u .up a b k l order in record { down = λ x y lx ly z. omega arith; up = λ x y ly lx z. omega arith })
+      (λ l. let q = u .down a b h l order in record { down = λ x y lx ly z. omega arith; up = λ x y ly lx z. omega arith })
+      sides
+
+-- ---- exclusions: pairs with the lower first
+
+-- how many pairs have their lower below a
+abbrev pub before : ℕ → ℕ
+before zero = 0
+before (suc a) = before a + (19 - a)
+
+before-adds : (a d : ℕ) → before a ≤ before (d + a)
+before-adds a zero = rw zero-add (let h : before a ≤ before a = omega arith in h)
+before-adds a (suc d) = rw suc-add (let h = before-adds a d in omega arith)
+
+before-rises : (a b : ℕ) → a ≤ b → before a ≤ before b
+before-rises a b l = let e : (b - a) + a ≡ b = omega arith in subst (λ (n : ℕ). before a ≤ before n) e (before-adds a (b - a))
+
+pub record ExclusionRoom (least n : ℕ) : Type 0 where
+  pub up : (a b : ℕ) → b < 20 → a < b → least ≤ pairKey a b → n + (a + 1) ≤ before a + b
+
+pub exclusion-none : (n : ℕ) → n ≡ 0 → ExclusionRoom 0 n
+exclusion-none n e = record { up = λ a b l h k. omega arith }
+
+module _ {least n : ℕ} (u : ExclusionRoom least n) (things a b : ℕ) (few : things ≤ 20)
+    (e : first (causes false (not (ltb a b && ltb b things)) (ltb (pairKey a b) least)) ≡ 0) where
+  rises : a < b
+  rises = ltb-true a b (and-cases (ltb a b) _ (not-false (ltb a b && ltb b things) (passed false (not (ltb a b && ltb b things)) (ltb (pairKey a b) least) e .1)) .0)
+
+  below : b < 20
+  below =
+      let l = ltb-true b things (and-cases (ltb a b) _ (not-false (ltb a b && ltb b things) (passed false (not (ltb a b && ltb b things)) (ltb (pairKey a b) least) e .1)) .1) in
+      omega arith
+
+  follows : n + (a + 1) ≤ before a + b
+  follows = u .up a b below rises (ltb-false (pairKey a b) least (passed false (not (ltb a b && ltb b things)) (ltb (pairKey a b) least) e .2))
+
+  -- the pairs with a for their lower come before those with a higher one
+  next-lower : (x : ℕ) → a < x → n + 1 ≤ before x
+  next-lower x l =
+      let r : before (suc a) ≤ before x = before-rises (suc a) x (omega arith) in
+      let q = follows in
+      let k = below in
+      let h = rises in
+      omega arith
+
+  pub exclusion-room : n < 190
+  exclusion-room = let r = next-lower 19 (let k = below in let h = rises in omega arith) in omega arith
+
+  pub exclusion-more : {m after : ℕ} → after ≡ pairKey a b + 1 → m ≡ n + 1 → ExclusionRoom after m
+  exclusion-more {m} {after} g f = record { up = λ x y ly lx z. go x y ly lx z (decLt a x) }
+    where
+      go : (x y : ℕ) → y < 20 → x < y → after ≤ pairKey x y → Dec (a < x) → m + (x + 1) ≤ before x + y
+      go x y ly lx z (yes l) = let r = next-lower x l in omega arith
+      go x y ly lx z (no h) =
+          let k = below in
+          let q = follows in
+          let same : x ≡ a = omega arith in
+          subst (λ (w : ℕ). m + (w + 1) ≤ before w + y) (sym same) (omega arith)
