@@ -1,16 +1,16 @@
 -- The first line and the last: what loading makes of a head, of an end line, and of what follows it.
 use Prim.Native.Nat.{ℕ, _+_, _≤_, _<_}
-use mathlib.Core.Path.{_≡_, refl, sym, _∙_, ap, subst}
+use mathlib.Core.Path.{_≡_, refl, sym, _∙_, ap}
 use mathlib.Core.Logic.{_≢_}
 use mathlib.Core.Bool.{Bool, true, false, not, cond, _&&_, _||_}
 use mathlib.Core.List.{List, [], _∷_}
 use native.Mathlib.Omega.{arith}
-use native.Mathlib.Decide.{ℕ-discrete, decLt}
+use native.Mathlib.Decide.{ℕ-discrete}
 use lib.ListN.{length, drop, length-drop, drop-of-length-le}
 use lib.Dec.{leb, eqb}
-use borrow.Author.Tests.{eq-eqb, ne-eqb, not-false, leb-true}
+use borrow.Author.Tests.{eq-eqb, ne-eqb}
 use Rattle.common.specs.Lists.{at}
-use Rattle.common.specs.BoolLaws.{and-cases, and-false}
+use Rattle.common.specs.BoolLaws.{and-false}
 use Rattle.common.specs.Causes.{first}
 use Rattle.common.specs.Refusals.{wrongKind, wrongEnd}
 use Rattle.common.specs.Refusals as refusals
@@ -18,21 +18,19 @@ use Rattle.closure.specs.Closure.{circular}
 use Rattle.octets.specs.Line.{Framed, refused, octets, kindOctet, bodyOf, restOf, frame, lines}
 use Rattle.octets.specs.LineLaws.{accepted, lines-none, lines-cons}
 use Rattle.policy.specs.declared.Record.{Record}
-use Rattle.policy.specs.Table.{Kind, head, user, edge, formula, demarcation, hierarchy, principal, exclusion, prerequisite, method, end, code, isKind, count, rows, blank, appended}
+use Rattle.policy.specs.Table.{Kind, head, user, edge, formula, demarcation, hierarchy, principal, exclusion, prerequisite, method, end, code, isKind, rows, blank, appended, kindOf}
 use Rattle.policy.specs.Rows.{causes, inRange, rowCauses, rowRefusal}
-use Rattle.policy.specs.RowLaws.{passed}
-use Rattle.policy.specs.Loadable.{tableLoads}
-use Rattle.policy.specs.LoadableLaws.{head-some}
-use Rattle.policy.specs.TableLaws.{sized-blank, sized-appended, count-other, blank-loads}
+use Rattle.policy.specs.TableLaws.{sized-blank, sized-appended, count-other}
+use Rattle.policy.specs.GrowthLaws.{blank-empty, tables-first}
 use Rattle.bundle.specs.declared.Next.the-variants.{Other, Refused}
 use Rattle.bundle.specs.declared.Cursor.{Cursor}
 use Rattle.bundle.specs.declared.Stage.{Stage}
-use Rattle.bundle.specs.Body.{kindOf, numbers}
+use Rattle.bundle.specs.Body.{numbers}
 use Rattle.bundle.specs.Loading.{Reading, misplaced, endWrong, lineRefusal, afterLine, notLoaded, atEnd, read, load}
 use Rattle.bundle.specs.Stages.{nextOf, numberAt, reading, outcome, refusedAt, movedPast, afterEnd, endedAt, Ready, Starts}
-use Rattle.bundle.proofs.Lines.{same-kind, misplaced-other, misplaced-below, misplaced-after, misplaced-first, misplaced-head, well-placed, placed-first, refused-place, refused-row, read-not, read-on, Found, sum-most, refused-line, other-line, body-length, stops-reading}
+use Rattle.bundle.proofs.Lines.{misplaced-other, misplaced-below, misplaced-after, misplaced-first, misplaced-head, well-placed, placed-first, refused-place, refused-row, read-not, read-on, Found, sum-most, refused-line, other-line, body-length, stops-reading}
 use Rattle.bundle.proofs.Bodies.{numbers-are}
-use Rattle.bundle.proofs.Going.{stage, outcome-on, outcome-stopped, table-empty}
+use Rattle.bundle.proofs.Going.{stage, outcome-on, outcome-stopped}
 
 -- ---- an empty text
 
@@ -50,20 +48,6 @@ top = record { number = 0; place = 0; lines = 0; last = 0; sum = 0 }
 from-top : (text : List ℕ) → load text ≡ read (reading (stage top blank)) (lines (drop 0 text))
 unfolding load
 from-top text = refl
-
-blank-empty : (j : Kind) → 2 ≤ code j → count j blank ≡ 0
-unfolding blank
-blank-empty head l = absurd (omega arith)
-blank-empty user l = refl
-blank-empty edge l = refl
-blank-empty formula l = refl
-blank-empty demarcation l = refl
-blank-empty hierarchy l = refl
-blank-empty principal l = refl
-blank-empty exclusion l = refl
-blank-empty prerequisite l = refl
-blank-empty method l = refl
-blank-empty end l = refl
 
 module _ (text : List ℕ) where
   starts-not : (n : ℕ) (r : Record) → n ≢ 0 → read (reading (stage top blank)) (lines (drop 0 text)) ≡ notLoaded n 1 → Starts text (refusedAt top n r)
@@ -96,14 +80,14 @@ module _ (text : List ℕ) where
 
     pub head-taken : 0 ≡ first (causes false (not (eqb version 1 && (leb 1 objects && leb objects 255))) false)
         → Starts text (stage (movedPast top 0x01 next sum) (appended head blank (version ∷ objects ∷ [])))
-    unfolding afterLine appended
+    unfolding afterLine rowRefusal rowCauses inRange
     head-taken e =
         record {
           same = outcome-on text s refl ∙ sym (from-top text ∙ moved);
           ready = λ z. record {
-            begun = record { some = omega arith; few = omega arith; sum = (let m = sum-most _ (f .framed) in let d = f .summed in omega arith); sized = sized-appended head w sized-blank; loads = λ j. loads j (decLt 1 (code j)) };
+            begun = record { some = omega arith; few = omega arith; sum = (let m = sum-most _ (f .framed) in let d = f .summed in omega arith); sized = sized-appended head w sized-blank; loads = tables-first w (passes ∙ sym e) };
             last = omega arith;
-            empty = λ j l. count-other head j blank w (ne-eqb 1 (code j) (λ q. omega arith)) ∙ blank-empty j l;
+            empty = λ j l. count-other head j blank w (ne-eqb 1 (code j) (λ q. omega arith)) ∙ blank-empty j (omega arith);
             others = λ os q l. below os (ℕ-discrete (kindOctet os) 1) l;
           };
         }
@@ -114,35 +98,13 @@ module _ (text : List ℕ) where
         s : Stage
         s = stage (movedPast top 0x01 next sum) (appended head blank (version ∷ objects ∷ []))
 
+        passes : rowRefusal head 1 blank w ≡ first (causes false (not (eqb version 1 && (leb 1 objects && leb objects 255))) false)
+        passes = refl
+
         moved : read (reading (stage top blank)) (lines (drop 0 text)) ≡ read (reading s) (lines (drop next text))
         moved =
             read-on (reading (stage top blank)) text 0 (f .within) (f .framed) head (ap kindOf (f .ours)) (head-row ∙ sym e)
             ∙ (λ i. read (record { lines = 0 + 1; last = 1; sum = 0 + sym (f .summed) i; rules = appended head blank (v i) }) (lines (drop (sym (f .follows) i) text)))
-
-        range : (leb 1 objects && leb objects 255) ≡ true
-        range = and-cases (eqb version 1) _ (not-false _ (passed false (not (eqb version 1 && (leb 1 objects && leb objects 255))) false (sym e) .1)) .1
-
-        loads : (j : Kind) → Dec (1 < code j) → tableLoads (appended head blank w) j ≡ true
-        loads j (yes l) = table-empty head j blank w (ne-eqb 1 (code j) (λ q. omega arith)) (blank-empty j (omega arith)) ∙ blank-loads j
-        loads j (no h) = subst (λ (i : Kind). tableLoads (appended head blank w) i ≡ true) (same-kind head j (code-one j h)) heads
-          where
-            code-one : (i : Kind) → (1 < code i → ⊥) → 1 ≡ code i
-            code-one head q = refl
-            code-one user q = absurd (q (omega arith))
-            code-one edge q = absurd (q (omega arith))
-            code-one formula q = absurd (q (omega arith))
-            code-one demarcation q = absurd (q (omega arith))
-            code-one hierarchy q = absurd (q (omega arith))
-            code-one principal q = absurd (q (omega arith))
-            code-one exclusion q = absurd (q (omega arith))
-            code-one prerequisite q = absurd (q (omega arith))
-            code-one method q = absurd (q (omega arith))
-            code-one end q = absurd (q (omega arith))
-
-            heads : tableLoads (appended head blank w) head ≡ true
-            heads =
-                let p = and-cases (leb 1 objects) _ range in
-                head-some (appended head blank w) (leb-true 1 objects (p .0)) (leb-true objects 255 (p .1))
 
         below : (os : List ℕ) → Dec (kindOctet os ≡ 1) → kindOctet os < 2 → misplaced (reading s) (kindOf (kindOctet os)) os ≡ true
         below os (yes q) l = misplaced-head (reading s) (kindOf (kindOctet os)) os (λ z. omega arith) (ap (λ (c : ℕ). isKind (kindOf c) head) q)

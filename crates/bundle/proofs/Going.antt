@@ -1,28 +1,29 @@
 -- The reader of one kind, line by line, for any kind that has a reader of its own.
 use Prim.Native.Nat.{ℕ, _+_, _-_, _≤_, _<_}
-use mathlib.Core.Path.{_≡_, refl, sym, _∙_, ap, subst}
+use mathlib.Core.Path.{_≡_, refl, sym, _∙_, ap}
 use mathlib.Core.Logic.{_≢_}
 use mathlib.Core.Bool.{true, false}
 use mathlib.Core.List.{List}
 use native.Mathlib.Omega.{arith}
-use native.Mathlib.Decide.{ℕ-discrete, decLt}
+use native.Mathlib.Decide.{ℕ-discrete}
 use lib.ListN.{drop}
 use borrow.Author.Tests.{ne-eqb}
 use Rattle.octets.specs.Line.{octets, kindOctet, total, frame, lines}
 use Rattle.octets.specs.LineLaws.{accepted}
 use Rattle.policy.specs.declared.Record.{Record}
-use Rattle.policy.specs.Table.{Kind, head, end, code, isKind, count, room, appended}
+use Rattle.policy.specs.Table.{Kind, head, end, code, isKind, count, room, appended, kindOf}
 use Rattle.policy.specs.Rows.{key, leastKey, rowRefusal}
-use Rattle.policy.specs.Loadable.{tableLoads}
 use Rattle.policy.specs.LoadableLaws.{table-few}
-use Rattle.policy.specs.TableLaws.{Sized, sized-appended, count-other, columns-other, count-same, table-kept, table-more, least-appended}
+use Rattle.policy.specs.RoomLaws.{room-left}
+use Rattle.policy.specs.GrowthLaws.{tables-more}
+use Rattle.policy.specs.TableLaws.{Sized, sized-appended, count-other, count-same, least-appended, kind-of-code}
 use Rattle.bundle.specs.declared.Next.the-variants.{Other, Refused}
 use Rattle.bundle.specs.declared.Cursor.{Cursor}
 use Rattle.bundle.specs.declared.Stage.{Stage}
-use Rattle.bundle.specs.Body.{kindOf, widths, numbers}
+use Rattle.bundle.specs.Body.{widths, numbers}
 use Rattle.bundle.specs.Loading.{misplaced, lineRefusal, afterLine, notLoaded, read}
 use Rattle.bundle.specs.Stages.{nextOf, reading, outcome, refusedAt, movedPast, Begun, Ready, Reads}
-use Rattle.bundle.proofs.Lines.{Proper, kind-of-code, same-kind, misplaced-below, well-placed, refused-row, read-not, read-on, Found, sum-most, other-kind, refused-line, body-length, stops-reading}
+use Rattle.bundle.proofs.Lines.{Proper, misplaced-below, well-placed, refused-row, read-not, read-on, Found, sum-most, other-kind, refused-line, body-length, stops-reading}
 
 -- a stage of the cursor and the record
 abbrev pub stage : Cursor → Record → Stage
@@ -58,11 +59,6 @@ outcome-on text s e = rw e
 pub outcome-stopped : (text : List ℕ) (at : Cursor) (n : ℕ) (r : Record) → n ≢ 0 → outcome text (refusedAt at n r) ≡ notLoaded n (at .lines + 1)
 unfolding outcome
 outcome-stopped text at n r h = rw (ne-eqb n 0 h)
-
--- a table without lines, of another kind than k, is the same after a line of kind k
-pub table-empty : (k j : Kind) (r : Record) (v : List ℕ) → isKind k j ≡ false → count j r ≡ 0 → tableLoads (appended k r v) j ≡ tableLoads r j
-unfolding tableLoads
-table-empty k j r v e z = rw (count-other k j r v e, columns-other k j r v e, z)
 
 module _ (text : List ℕ) (k : Kind) (p : Proper k) (most : ℕ) (start : Stage) (at : Cursor) (r : Record) (g : Going text k most start at r) where
   not-head : isKind k head ≡ false
@@ -123,11 +119,16 @@ module _ (text : List ℕ) (k : Kind) (p : Proper k) (most : ℕ) (start : Stage
           ready = λ z. absurd (h z);
         }
 
+    -- and there is room for it
+    pub has-room : rowRefusal k (count k r) r (numbers k (f .os)) ≡ 0 → count k r < room k
+    has-room e = room-left k r (numbers k (f .os)) (p .low) (let h = p .high in omega arith) (g .begun .loads) e
+
     -- its numbers are taken
-    pub going-more : 0 ≡ rowRefusal k (count k r) r (numbers k (f .os)) → count k r < room k
+    pub going-more : 0 ≡ rowRefusal k (count k r) r (numbers k (f .os))
         → Going text k most start (movedPast at (code k) next sum) (appended k r (numbers k (f .os)))
     unfolding afterLine
-    going-more e few =
+    going-more e =
+        let few = has-room (sym e) in
         let v = numbers k (f .os) in
         let low : 1 < code k = p .low in
         let high : code k < 255 = (let h = p .high in omega arith) in
@@ -142,28 +143,17 @@ module _ (text : List ℕ) (k : Kind) (p : Proper k) (most : ℕ) (start : Stage
             few = (let c = b .few in omega arith);
             sum = (let c = b .sum in let d = f .summed in omega arith);
             sized = sized-appended k v (b .sized);
-            loads = λ j. loads j (decLt (code j) (code k)) (decLt (code k) (code j));
+            loads = tables-more k r v low high (b .sized) (b .loads) (g .empty) (sym e);
           };
           last = omega arith;
           empty = λ j l. count-other k j r v (ne-eqb (code k) (code j) (λ z. omega arith)) ∙ g .empty j l;
           others = λ os q l. misplaced-below (reading (stage (movedPast at (code k) next sum) (appended k r v))) (kindOf (kindOctet os)) os l;
         }
       where
-        e′ : 0 ≡ rowRefusal k (count k r) r (numbers k (f .os))
-        e′ = e
-
         moved : read (reading (stage at r)) (lines (drop (at .place) text)) ≡ read (reading (stage (movedPast at (code k) next sum) (appended k r (numbers k (f .os))))) (lines (drop next text))
         moved =
             read-on (reading (stage at r)) text (at .place) (f .within) (f .framed) k known (refusal ∙ sym e)
             ∙ (λ i. read (record { lines = at .lines + 1; last = code k; sum = at .sum + sym (f .summed) i; rules = appended k r (numbers k (f .os)) }) (lines (drop (sym (f .follows) i) text)))
-
-        loads : (j : Kind) → Dec (code j < code k) → Dec (code k < code j) → tableLoads (appended k r (numbers k (f .os))) j ≡ true
-        loads j (yes l) d = table-kept k j r (numbers k (f .os)) l ∙ g .begun .loads j
-        loads j (no h) (yes l) = table-empty k j r (numbers k (f .os)) (ne-eqb (code k) (code j) (λ z. omega arith)) (g .empty j l) ∙ g .begun .loads j
-        loads j (no h) (no h′) =
-            let e : j ≡ k = same-kind j k (omega arith) in
-            subst (λ (i : Kind). tableLoads (appended k r (numbers k (f .os))) i ≡ true) (sym e)
-            (table-more k r (numbers k (f .os)) (p .low) (let u = p .high in omega arith) (g .begun .sized) few (g .begun .loads k) (sym e′))
 
 -- ---- for the readers of the kinds
 

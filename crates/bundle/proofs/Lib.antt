@@ -3,5 +3,4 @@ mod Numbers
 mod Lines
 mod Going
 mod Bodies
-mod Rooms
 mod Ends

@@ -15,10 +15,11 @@ use Rattle.common.specs.Refusals.{wrongKind}
 use Rattle.octets.specs.Line.{Framed, refused, octets, kindOctet, bodyOf, total, lineOf, restOf, frame, lines}
 use Rattle.octets.specs.LineLaws.{accepted, refused-is, next-line, lines-cons}
 use Rattle.octets.specs.WritingLaws.{Octets, octets-of-pairs}
-use Rattle.policy.specs.Table.{Kind, head, user, edge, formula, demarcation, hierarchy, principal, exclusion, prerequisite, method, end, code, isKind, count}
+use Rattle.policy.specs.Table.{Kind, head, user, edge, formula, demarcation, hierarchy, principal, exclusion, prerequisite, method, end, code, isKind, count, kindOf}
+use Rattle.policy.specs.TableLaws.{kind-of-code}
 use Rattle.policy.specs.Rows.{rowCauses, rowRefusal}
 use Rattle.bundle.specs.declared.Next.the-variants.{Other, Refused, Body}
-use Rattle.bundle.specs.Body.{kindOf, widths, numbers}
+use Rattle.bundle.specs.Body.{widths, numbers}
 use Rattle.bundle.specs.Loading.{Reading, misplaced, endWrong, lineRefusal, afterLine, notLoaded, read}
 use Rattle.bundle.specs.Stages.{nextIs, nextOf}
 
@@ -53,23 +54,6 @@ proper-prerequisite = record { low = omega arith; high = omega arith }
 
 pub proper-method : Proper method
 proper-method = record { low = omega arith; high = omega arith }
-
--- a kind is known by its octet
-pub kind-of-code : (k : Kind) → kindOf (code k) ≡ k
-kind-of-code head = refl
-kind-of-code user = refl
-kind-of-code edge = refl
-kind-of-code formula = refl
-kind-of-code demarcation = refl
-kind-of-code hierarchy = refl
-kind-of-code principal = refl
-kind-of-code exclusion = refl
-kind-of-code prerequisite = refl
-kind-of-code method = refl
-kind-of-code end = refl
-
-pub same-kind : (j k : Kind) → code j ≡ code k → j ≡ k
-same-kind j k e = sym (kind-of-code j) ∙ ap kindOf e ∙ kind-of-code k
 
 -- ---- misplaced lines
 

@@ -1,27 +1,10 @@
 -- The bodies of lines as numbers.
 use Prim.Native.Nat.{ℕ}
-use mathlib.Core.Bool.{cond}
 use mathlib.Core.List.{List, [], _∷_}
 use lib.ListN.{take, drop}
-use lib.Dec.{eqb}
 use Rattle.octets.specs.Line.{bodyOf}
 use Rattle.octets.specs.Number.{number}
 use Rattle.policy.specs.Table.{Kind, head, user, edge, formula, demarcation, hierarchy, principal, exclusion, prerequisite, method, end}
-
--- the kind with this octet; of an octet that is no kind's this is `end`, whose code is another
-abbrev pub kindOf : ℕ → Kind
-kindOf c =
-    cond (eqb c 0x01) head
-    (cond (eqb c 0x02) user
-    (cond (eqb c 0x03) edge
-    (cond (eqb c 0x04) formula
-    (cond (eqb c 0x05) demarcation
-    (cond (eqb c 0x06) hierarchy
-    (cond (eqb c 0x07) principal
-    (cond (eqb c 0x08) exclusion
-    (cond (eqb c 0x09) prerequisite
-    (cond (eqb c 0x0A) method
-    end)))))))))
 
 -- the numbers of a body, by how many octets each has
 abbrev pub widths : Kind → List ℕ

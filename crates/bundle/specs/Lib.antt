@@ -1,3 +1,4 @@
 pub mod Body
 pub mod Loading
+pub mod LoadingLaws
 pub mod Stages

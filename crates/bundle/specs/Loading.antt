@@ -11,10 +11,10 @@ use Rattle.common.specs.Refusals as refusals
 use Rattle.closure.specs.Closure.{circular}
 use Rattle.octets.specs.Line.{Framed, refused, octets, kindOctet, bodyOf, total, lines}
 use Rattle.policy.specs.declared.Record.{Record}
-use Rattle.policy.specs.Table.{Kind, head, hierarchy, prerequisite, end, code, isKind, count, rows, blank, appended}
+use Rattle.policy.specs.Table.{Kind, head, hierarchy, prerequisite, end, code, isKind, count, rows, blank, appended, kindOf}
 use Rattle.policy.specs.Rows.{rowCauses}
 use Rattle.bundle.specs.declared.Loaded.{Loaded}
-use Rattle.bundle.specs.Body.{kindOf, widths, numbers}
+use Rattle.bundle.specs.Body.{widths, numbers}
 
 -- how many lines were read, the last one's kind octet, the plain sum of their octets, and what they say
 pub record Reading : Type 0 where

@@ -13,7 +13,7 @@ use Rattle.octets.specs.Line.{Framed, refused, octets, kindOctet, total, frame,
 use Rattle.octets.specs.Answers.{octetAt}
 use Rattle.octets.specs.Number.{number}
 use Rattle.policy.specs.declared.Record.{Record}
-use Rattle.policy.specs.Table.{Kind, hierarchy, prerequisite, code, count, room, rows}
+use Rattle.policy.specs.Table.{Kind, hierarchy, prerequisite, code, count, room, rows, kindOf}
 use Rattle.policy.specs.TableLaws.{Sized}
 use Rattle.policy.specs.Loadable.{tableLoads}
 use Rattle.bundle.specs.declared.Next.{Next}
@@ -21,7 +21,6 @@ use Rattle.bundle.specs.declared.Next.the-variants.{Other, Refused, Body
 use Rattle.bundle.specs.declared.Loaded.{Loaded}
 use Rattle.bundle.specs.declared.Cursor.{Cursor}
 use Rattle.bundle.specs.declared.Stage.{Stage}
-use Rattle.bundle.specs.Body.{kindOf}
 use Rattle.bundle.specs.Loading.{Reading, misplaced, notLoaded, read, load}
 
 -- a line at a place, for a reader of lines of one kind, which have so many octets

@@ -6,5 +6,7 @@ pub mod Edits
 pub mod OpLaws
 pub mod RowLaws
 pub mod LoadableLaws
+pub mod RoomLaws
 pub mod TableLaws
 pub mod HeightLaws
+pub mod GrowthLaws

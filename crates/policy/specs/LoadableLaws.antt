@@ -172,3 +172,9 @@ head-range r e =
 pub table-few : (r : Record) (k : Kind) → tableLoads r k ≡ true → count k r ≤ room k
 unfolding tableLoads
 table-few r k e = leb-true (count k r) (room k) (and-cases (leb (count k r) (room k)) _ e .0)
+
+-- a record whose tables load, and which has no circles, is loadable
+pub loadable-from : (r : Record) → ((j : Kind) → tableLoads r j ≡ true) → noCircles r ≡ true → loadable r ≡ true
+unfolding loadable
+loadable-from r loads c =
+    rw (loads head, loads user, loads edge, loads formula, loads demarcation, loads hierarchy, loads principal, loads exclusion, loads prerequisite, loads method) c

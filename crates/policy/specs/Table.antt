@@ -25,6 +25,21 @@ code prerequisite = 0x09
 code method = 0x0A
 code end = 0xFF
 
+-- the kind with this octet; of an octet that is no kind's this is `end`, whose code is another
+abbrev pub kindOf : ℕ → Kind
+kindOf c =
+    cond (eqb c 0x01) head
+    (cond (eqb c 0x02) user
+    (cond (eqb c 0x03) edge
+    (cond (eqb c 0x04) formula
+    (cond (eqb c 0x05) demarcation
+    (cond (eqb c 0x06) hierarchy
+    (cond (eqb c 0x07) principal
+    (cond (eqb c 0x08) exclusion
+    (cond (eqb c 0x09) prerequisite
+    (cond (eqb c 0x0A) method
+    end)))))))))
+
 abbrev pub isKind : Kind → Kind → Bool
 isKind j k = eqb (code j) (code k)
 

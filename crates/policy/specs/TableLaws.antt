@@ -16,10 +16,29 @@ use Rattle.common.specs.ListLaws.{drop-one, every-more}
 use Rattle.common.specs.BoolLaws.{and-cases, and-both}
 use Rattle.common.specs.Causes.{first}
 use Rattle.policy.specs.declared.Record.{Record}
-use Rattle.policy.specs.Table.{Kind, head, user, edge, formula, demarcation, hierarchy, principal, exclusion, prerequisite, method, end, code, isKind, count, columns, room, row, blank, appended}
+use Rattle.policy.specs.Table.{Kind, head, user, edge, formula, demarcation, hierarchy, principal, exclusion, prerequisite, method, end, code, kindOf, isKind, count, columns, room, row, blank, appended}
 use Rattle.policy.specs.Op.{opOf, heightOf, height, formulaInRange}
 use Rattle.policy.specs.Rows.{limited, rising, key, leastKey, causes, inRange, rowCauses, rowRefusal}
 use Rattle.policy.specs.Loadable.{rowsLoad, zeroFrom, tableLoads}
+
+-- ---- kinds and their octets
+
+-- a kind is known by its octet
+pub kind-of-code : (k : Kind) → kindOf (code k) ≡ k
+kind-of-code head = refl
+kind-of-code user = refl
+kind-of-code edge = refl
+kind-of-code formula = refl
+kind-of-code demarcation = refl
+kind-of-code hierarchy = refl
+kind-of-code principal = refl
+kind-of-code exclusion = refl
+kind-of-code prerequisite = refl
+kind-of-code method = refl
+kind-of-code end = refl
+
+pub same-kind : (j k : Kind) → code j ≡ code k → j ≡ k
+same-kind j k e = sym (kind-of-code j) ∙ ap kindOf e ∙ kind-of-code k
 
 -- ---- a column with a number put at the first unused place, or not
 

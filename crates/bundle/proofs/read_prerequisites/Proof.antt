@@ -13,15 +13,12 @@ use Rattle.bundle.specs.Body.{numbers}
 use Rattle.bundle.specs.Stages.{Reads}
 use Rattle.bundle.proofs.Lines.{proper-prerequisite, Found, found-line}
 use Rattle.bundle.proofs.Bodies.{one-octet, numbers-are}
-use Rattle.bundle.proofs.Going.{stage, Going, going-start, going-stops, going-done, going-refused, going-more, reads-refused, least-start, least-next, lines-fit, past-fits}
-use Rattle.policy.specs.LoadableLaws.{table-few}
-use Rattle.bundle.proofs.Rooms.{PairRoom, pair-none, pair-room, pair-more}
-use Rattle.policy.specs.Table.{principal}
+use Rattle.bundle.proofs.Going.{stage, Going, going-start, going-stops, going-done, going-refused, has-room, going-more, reads-refused, least-start, least-next, lines-fit, past-fits}
 use Rattle.bundle.proofs.read_prerequisites.Statement.{statement}
 use Rattle.bundle.proofs.read_prerequisites.Tie as tie
 
 abbrev Inv-loop : tie.InvT-loop
-Inv-loop text at₀ rules₀ least₀ at rules least = Going text prerequisite 1442 (stage at₀ rules₀) at rules × (least ≡ leastKey prerequisite (count prerequisite rules) rules) × PairRoom least (count prerequisite rules)
+Inv-loop text at₀ rules₀ least₀ at rules least = Going text prerequisite 1442 (stage at₀ rules₀) at rules × (least ≡ leastKey prerequisite (count prerequisite rules) rules)
 
 abbrev μ-loop : tie.MeasureT-loop
 μ-loop text at₀ rules₀ least₀ at rules least = length text - at .place
@@ -30,7 +27,7 @@ returns : tie.Need-returns Inv-loop μ-loop
 returns c = reads-refused _ _ _ _ (c .if1 .taken)
 
 loop-holds : tie.Need-loop-holds Inv-loop μ-loop
-loop-holds c = (going-start _ prerequisite 1442 _ (c .before .if1 .left) (c .before .before .before .before .before .pre (c .before .if1 .left)), least-start prerequisite _ ((c .before .before .before .before .before .pre (c .before .if1 .left)) .empty prerequisite (omega arith)), pair-none _ ((c .before .before .before .before .before .pre (c .before .if1 .left)) .empty prerequisite (omega arith)))
+loop-holds c = (going-start _ prerequisite 1442 _ (c .before .if1 .left) (c .before .before .before .before .before .pre (c .before .if1 .left)), least-start prerequisite _ ((c .before .before .before .before .before .pre (c .before .if1 .left)) .empty prerequisite (omega arith)))
 
 next-line-requires : tie.Need-next-line-requires Inv-loop μ-loop
 next-line-requires c κs = search needs
@@ -39,7 +36,7 @@ enum-told : tie.Need-enum-told Inv-loop μ-loop
 enum-told c = search needs
 
 returns-2 : tie.Need-returns-2 Inv-loop μ-loop
-returns-2 c =
+returns-2 c = 
     let h = c .before .before .before in
     going-done _ prerequisite proper-prerequisite 1442 _ _ _ (h .loop .inv .0) 5 (sym (c .before .before .next-line .ensures) ∙ c .enum-told .given .1)
 
@@ -50,7 +47,7 @@ stopped-requires : tie.Need-stopped-requires Inv-loop μ-loop
 stopped-requires c κs = lines-fit _ prerequisite (c .before .before .before .before .loop .inv .0) (omega arith)
 
 returns-3 : tie.Need-returns-3 Inv-loop μ-loop
-returns-3 c =
+returns-3 c = 
     let l = c .before .before .before .before in
     subst (Reads _ prerequisite 1442 _) (sym (c .stopped .ensures))
     (going-stops _ prerequisite proper-prerequisite 1442 _ _ _ (l .before .loop .inv .0) 5 _ refl (sym (l .next-line .ensures) ∙ c .before .before .number .given .1))
@@ -90,7 +87,7 @@ refusal q =
     q .pair-refusal .ensures ∙ prerequisite-values (h .loop .rules) (count prerequisite (h .loop .rules)) (q .before .before .octet-at .result) (q .before .octet-at2 .result) (h .loop .inv .1) ∙ ap (rowRefusal prerequisite (count prerequisite (h .loop .rules)) (h .loop .rules)) (sym (taken q))
 
 returns-4 : tie.Need-returns-4 Inv-loop μ-loop
-returns-4 c =
+returns-4 c = 
     let q = c .before .before in
     let h = q .before .before .before .before .before .before .before in
     subst (Reads _ prerequisite 1442 _) (sym (c .stopped2 .ensures))
@@ -98,10 +95,7 @@ returns-4 c =
 
 -- there is room for it
 room-left : (e : tie.Else2 Inv-loop μ-loop) → count prerequisite (e .before .before .before .before .before .before .before .before .loop .rules) < room prerequisite
-room-left e =
-    let q = e .before in
-    let h = q .before .before .before .before .before .before .before in
-    pair-room (h .loop .inv .2) (h .loop .rules .«principal_count») (q .before .before .octet-at .result) (q .before .octet-at2 .result) (table-few (h .loop .rules) principal (h .loop .inv .0 .begun .loads principal)) (sym (q .pair-refusal .ensures) ∙ e .if2 .left)
+room-left e = let h = e .before .before .before .before .before .before .before .before in has-room _ prerequisite proper-prerequisite 1442 _ _ _ (h .loop .inv .0) refl (found (e .before .before .before .before .before)) (sym (refusal (e .before)) ∙ e .if2 .left)
 
 element-write-rules : tie.Need-element-write-rules Inv-loop μ-loop
 element-write-rules c = room-left c
@@ -116,13 +110,13 @@ after-pair-requires : tie.Need-after-pair-requires Inv-loop μ-loop
 after-pair-requires c κs = search needs
 
 past-requires : tie.Need-past-requires Inv-loop μ-loop
-past-requires c κs =
+past-requires c κs = 
     let e = c .before in
     let h = e .before .before .before .before .before .before .before .before in
     past-fits _ prerequisite (h .loop .inv .0) (found (e .before .before .before .before .before)) (omega (arith, room-left e))
 
 loop-less : tie.Need-loop-less Inv-loop μ-loop
-loop-less c =
+loop-less c = 
     let e = c .before .before in
     let f = found (e .before .before .before .before .before) in
     let p = ap (λ (x : Cursor). x .place) (c .past .ensures) in
@@ -130,16 +124,13 @@ loop-less c =
 
 loop-again : tie.Need-loop-again Inv-loop μ-loop
 unfolding appended
-loop-again c =
+loop-again c = 
     let e = c .before .before in
     let h = e .before .before .before .before .before .before .before .before in
     let f = found (e .before .before .before .before .before) in
-    let v = ap (appended prerequisite (h .loop .rules)) (taken (e .before)) in (
-      subst₂ (Going _ prerequisite 1442 _) (sym (c .past .ensures)) v
-          (going-more _ prerequisite proper-prerequisite 1442 _ _ _ (h .loop .inv .0) refl f (sym (sym (refusal (e .before)) ∙ e .if2 .left)) (room-left e)),
-      least-next prerequisite _ (omega arith) (omega arith) (taken (e .before)) (h .loop .inv .0 .begun .sized) (room-left e) (c .before .after-pair .ensures),
-      let q = e .before in pair-more (h .loop .inv .2) (h .loop .rules .«principal_count») (q .before .before .octet-at .result) (q .before .octet-at2 .result) (table-few (h .loop .rules) principal (h .loop .inv .0 .begun .loads principal)) (sym (q .pair-refusal .ensures) ∙ e .if2 .left) (c .before .after-pair .ensures) refl,
-    )
+    let v = ap (appended prerequisite (h .loop .rules)) (taken (e .before)) in
+    (subst₂ (Going _ prerequisite 1442 _) (sym (c .past .ensures)) v
+    (going-more _ prerequisite proper-prerequisite 1442 _ _ _ (h .loop .inv .0) refl f (sym (sym (refusal (e .before)) ∙ e .if2 .left))), least-next prerequisite _ (omega arith) (omega arith) (taken (e .before)) (h .loop .inv .0 .begun .sized) (room-left e) (c .before .after-pair .ensures))
 
 pub read-prerequisites-spec : {M : Type 1} → statement M
 read-prerequisites-spec =

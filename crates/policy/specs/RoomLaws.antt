@@ -1,17 +1,25 @@
 -- Why the tables without a limit of their own have room: their lines rise, and there are only so many in range.
 use Prim.Native.Nat.{ℕ, zero, suc, _+_, _-_, _*_, _≤_, _<_}
-use mathlib.Core.Path.{_≡_, sym, subst}
+use mathlib.Core.Path.{_≡_, refl, sym, _∙_, subst}
+use mathlib.Core.List.{List}
 use mathlib.Core.Logic.{_≢_, _⊎_, inl, inr, ⊎-elim}
 use mathlib.Core.Bool.{true, false, not, _&&_}
 use native.Mathlib.Omega.{arith}
 use native.Mathlib.Nat.{zero-add, suc-add}
 use native.Mathlib.Decide.{decLt}
-use lib.Dec.{ltb, eqb}
-use borrow.Author.Tests.{ltb-true, ltb-false, eqb-false, not-true, not-false}
+use native.Mathlib.Numerals.{add-one}
+use lib.Dec.{ltb, leb, eqb}
+use borrow.Author.Tests.{ltb-true, ltb-false, eqb-false, not-true, not-false, eqb-true}
 use Rattle.common.specs.BoolLaws.{and-cases}
 use Rattle.common.specs.Causes.{first}
-use Rattle.policy.specs.Rows.{causes, pairInRange, pairKey}
-use Rattle.policy.specs.RowLaws.{passed}
+use Rattle.common.specs.Lists.{at}
+use Rattle.common.specs.ListLaws.{every-more}
+use Rattle.policy.specs.declared.Record.{Record}
+use Rattle.policy.specs.Table.{Kind, head, user, edge, formula, demarcation, hierarchy, principal, exclusion, prerequisite, method, end, code, count, room, row}
+use Rattle.policy.specs.Rows.{causes, pairInRange, pairKey, inRange, leastKey, rowCauses, rowRefusal}
+use Rattle.policy.specs.Loadable.{rowsLoad, tableLoads}
+use Rattle.policy.specs.LoadableLaws.{head-range, table-few}
+use Rattle.policy.specs.RowLaws.{passed, row-limit}
 
 -- ---- users: by object
 
@@ -127,3 +135,62 @@ module _ {least n : ℕ} (u : ExclusionRoom least n) (things a b : ℕ) (few : t
           let q = follows in
           let same : x ≡ a = omega arith in
           subst (λ (w : ℕ). m + (w + 1) ≤ before w + y) (sym same) (omega arith)
+
+-- ---- from the lines of a table
+
+row-passes : (k : Kind) (r : Record) (n : ℕ) → rowsLoad r k (suc n) ≡ true → (rowsLoad r k n ≡ true) × (rowRefusal k n r (row k n r) ≡ 0)
+row-passes k r n e =
+    let p = and-cases (rowsLoad r k n) _ (sym (every-more (λ i. eqb (rowRefusal k i r (row k i r)) 0) n (λ i. i)) ∙ e) in
+    (p .0, eqb-true (rowRefusal k n r (row k n r)) 0 (p .1))
+
+user-rows : (r : Record) (n : ℕ) → rowsLoad r user n ≡ true → UserRoom (leastKey user n r) n
+unfolding rowRefusal rowCauses inRange
+user-rows r zero e = user-none 0 refl
+user-rows r (suc n) e = let p = row-passes user r n e in user-more (user-rows r n (p .0)) (r .objects) (at (r .«user_objects») n) (p .1) refl (sym (add-one n))
+
+module _ (r : Record) where
+  hierarchy-rows : r .«demarcation_count» ≤ 20 → (n : ℕ) → rowsLoad r hierarchy n ≡ true → PairRoom (leastKey hierarchy n r) n
+  unfolding rowRefusal rowCauses inRange
+  hierarchy-rows few zero e = pair-none 0 refl
+  hierarchy-rows few (suc n) e =
+      let p = row-passes hierarchy r n e in
+      pair-more (hierarchy-rows few n (p .0)) (r .«demarcation_count») (at (r .inferiors) n) (at (r .superiors) n) few (p .1) refl (sym (add-one n))
+
+  prerequisite-rows : r .«principal_count» ≤ 20 → (n : ℕ) → rowsLoad r prerequisite n ≡ true → PairRoom (leastKey prerequisite n r) n
+  unfolding rowRefusal rowCauses inRange
+  prerequisite-rows few zero e = pair-none 0 refl
+  prerequisite-rows few (suc n) e =
+      let p = row-passes prerequisite r n e in
+      pair-more (prerequisite-rows few n (p .0)) (r .«principal_count») (at (r .prerequisites) n) (at (r .dependents) n) few (p .1) refl (sym (add-one n))
+
+  exclusion-rows : r .«principal_count» ≤ 20 → (n : ℕ) → rowsLoad r exclusion n ≡ true → ExclusionRoom (leastKey exclusion n r) n
+  unfolding rowRefusal rowCauses inRange
+  exclusion-rows few zero e = exclusion-none 0 refl
+  exclusion-rows few (suc n) e =
+      let p = row-passes exclusion r n e in
+      exclusion-more (exclusion-rows few n (p .0)) (r .«principal_count») (at (r .«exclusion_lows») n) (at (r .«exclusion_highs») n) few (p .1) refl (sym (add-one n))
+
+rows-of : (r : Record) (k : Kind) → tableLoads r k ≡ true → rowsLoad r k (count k r) ≡ true
+unfolding tableLoads
+rows-of r k e = and-cases (rowsLoad r k (count k r)) _ (and-cases (leb (count k r) (room k)) _ e .1) .0
+
+-- THE LAW: where the tables load, a line that passes its check has room
+pub room-left : (k : Kind) (r : Record) (v : List ℕ) → 1 < code k → code k < 0xFF → ((j : Kind) → tableLoads r j ≡ true) → rowRefusal k (count k r) r v ≡ 0 → count k r < room k
+unfolding rowRefusal rowCauses inRange
+room-left head r v l h loads e = absurd (omega arith)
+room-left user r v l h loads e = user-room (user-rows r (r .«user_count») (rows-of r user (loads user))) (r .objects) (at v 0) e (head-range r (loads head) .1)
+room-left edge r v l h loads e = row-limit edge (r .«edge_count») r v refl e
+room-left formula r v l h loads e = row-limit formula (r .«formula_count») r v refl e
+room-left demarcation r v l h loads e = row-limit demarcation (r .«demarcation_count») r v refl e
+room-left hierarchy r v l h loads e =
+    let few = table-few r demarcation (loads demarcation) in
+    pair-room (hierarchy-rows r few (r .«hierarchy_count») (rows-of r hierarchy (loads hierarchy))) (r .«demarcation_count») (at v 0) (at v 1) few e
+room-left principal r v l h loads e = row-limit principal (r .«principal_count») r v refl e
+room-left exclusion r v l h loads e =
+    let few = table-few r principal (loads principal) in
+    exclusion-room (exclusion-rows r few (r .«exclusion_count») (rows-of r exclusion (loads exclusion))) (r .«principal_count») (at v 0) (at v 1) few e
+room-left prerequisite r v l h loads e =
+    let few = table-few r principal (loads principal) in
+    pair-room (prerequisite-rows r few (r .«prerequisite_count») (rows-of r prerequisite (loads prerequisite))) (r .«principal_count») (at v 0) (at v 1) few e
+room-left method r v l h loads e = row-limit method (r .«method_count») r v refl e
+room-left end r v l h loads e = absurd (omega arith)
