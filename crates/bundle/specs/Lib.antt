@@ -2,3 +2,5 @@ pub mod Body
 pub mod Loading
 pub mod LoadingLaws
 pub mod Stages
+pub mod Examples
+pub mod Crown

@@ -8,6 +8,7 @@ use native.Mathlib.Omega.{arith}
 use lib.ListN.{length}
 use lib.Dec.{ltb, eqb}
 use borrow.Author.Tests.{eqb-true, eqb-false, eq-eqb, ne-eqb, ltb-false, not-false}
+use Rattle.common.specs.BoolLaws.{or-none}
 use Rattle.common.specs.Causes.{Cause, cause, first}
 use Rattle.common.specs.Refusals.{wrongKind, wrongEnd}
 use Rattle.common.specs.Refusals as refusals
@@ -24,10 +25,6 @@ use Rattle.bundle.specs.Body.{widths, numbers}
 use Rattle.bundle.specs.Loading.{Reading, atTop, misplaced, endWrong, lineRefusal, afterLine, notLoaded, atEnd, read, load}
 
 -- ---- a line that is taken
-
-or-none : (x y : Bool) → x || y ≡ false → (x ≡ false) × (y ≡ false)
-or-none true y e = absurd (false≢true (sym e))
-or-none false y e = (refl, e)
 
 -- no cause is there: none of the first, and none of those with one more behind them
 none-before : (cs : List Cause) (c : Cause) → first (cs ++ (c ∷ [])) ≡ 0 → first cs ≡ 0

@@ -34,6 +34,8 @@ pub struct Stage {
     pub rules: Record,
 }
 
+// ---- one line
+
 // What stands at a place, for a reader of lines of one kind.
 pub enum Next {
     // The text's end, or a line of another kind.
@@ -110,6 +112,8 @@ fn past(at: Cursor, kind: u8, next: usize, total: usize) -> Cursor
         sum: at.sum + total,
     }
 }
+
+// ---- the readers of the kinds: each takes the lines of its kind, from the stage that the one before it left
 
 // Kind 01, the first line.
 fn read_head(text: &[u8]) -> Stage
@@ -533,6 +537,8 @@ fn read_methods(text: &[u8], from: Stage) -> Stage
         }
     }
 }
+
+// ---- the end line, and loading
 
 // Refused: the number, the line, and the blank record.
 fn not_loaded(number: u8, line: usize) -> Loaded

@@ -1,5 +1,5 @@
 -- What a conjunction or a disjunction of tests says.
-use mathlib.Core.Path.{_≡_, refl, sym}
+use mathlib.Core.Path.{_≡_, refl, sym, _∙_}
 use mathlib.Core.Logic.{_⊎_, inl, inr, _↔_}
 use mathlib.Core.Bool.{Bool, true, false, false≢true, _&&_, _||_}
 
@@ -30,6 +30,14 @@ or-left false y e = absurd (false≢true e)
 pub or-right : (x y : Bool) → y ≡ true → x || y ≡ true
 or-right true y e = refl
 or-right false y e = e
+
+pub or-none : (x y : Bool) → x || y ≡ false → (x ≡ false) × (y ≡ false)
+or-none true y e = absurd (false≢true (sym e))
+or-none false y e = (refl, e)
+
+pub or-left-only : (x y : Bool) → y ≡ false → x || y ≡ true → x ≡ true
+or-left-only true y e f = refl
+or-left-only false y e f = absurd (false≢true (sym e ∙ f))
 
 -- tests that are passed together are the same
 pub same-test : (x y : Bool) → (x ≡ true ↔ y ≡ true) → x ≡ y

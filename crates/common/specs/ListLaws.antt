@@ -1,14 +1,14 @@
 -- Laws of lists: by places, and quantifiers over a table row by row.
-use Prim.Native.Nat.{ℕ, suc, _+_, _<_}
-use mathlib.Core.Path.{_≡_, refl, _∙_, ap}
+use Prim.Native.Nat.{ℕ, zero, suc, _+_, _≤_, _<_}
+use mathlib.Core.Path.{_≡_, refl, sym, _∙_, ap}
 use mathlib.Core.Bool.{Bool, true, false, _&&_, _||_}
-use mathlib.Core.List.{List, [], _∷_, _++_}
+use mathlib.Core.List.{List, [], _∷_, _++_, map, map-append}
 use native.Mathlib.Omega.{arith}
 use native.Mathlib.Numerals.{add-one}
-use lib.ListN.{length, drop}
-use lib.Seq.{drop-cons}
+use lib.ListN.{length, getD, take, drop}
+use lib.Seq.{take-suc, drop-cons}
 use Rattle.common.specs.Lists.{at, any, every, table}
-use Rattle.common.specs.BoolLaws.{and-true}
+use Rattle.common.specs.BoolLaws.{and-true, and-cases, and-both}
 
 -- what is left at a place: the number there, and what is left at the next
 pub drop-one : (s : List ℕ) (i : ℕ) → i < length s → drop i s ≡ at s i ∷ drop (i + 1) s
@@ -36,6 +36,15 @@ module _ {A : Type 0} (p : A → Bool) where
       go true e = e
       go false e = refl
 
+  pub every-at : (l : List A) (i : ℕ) (d : A) → every p l ≡ true → i < length l → p (getD l i d) ≡ true
+  every-at [] i d e h = let z : ⊥ = omega arith in absurd z
+  every-at (x ∷ l) zero d e h = and-cases (p x) _ e .0
+  every-at (x ∷ l) (suc i) d e h = every-at l i d (and-cases (p x) _ e .1) (omega arith)
+
+  pub every-all : (l : List A) → ((x : A) → p x ≡ true) → every p l ≡ true
+  every-all [] h = refl
+  every-all (x ∷ l) h = and-both (p x) _ (h x) (every-all l h)
+
   -- one row more, as a loop goes
   pub any-more : (n : ℕ) (f : ℕ → A) → any p (table (suc n) f) ≡ (any p (table n f) || p (f n))
   any-more n f = any-append (table n f) (f n ∷ []) ∙ ap (λ (b : Bool). any p (table n f) || b) (go (p (f n)))
@@ -46,3 +55,25 @@ module _ {A : Type 0} (p : A → Bool) where
 
   pub every-more : (n : ℕ) (f : ℕ → A) → every p (table (suc n) f) ≡ (every p (table n f) && p (f n))
   every-more n f = every-append (table n f) (f n ∷ []) ∙ ap (λ (b : Bool). every p (table n f) && b) (and-true (p (f n)))
+
+-- a table from its first row on
+pub table-cons : {A : Type 0} (n : ℕ) (f : ℕ → A) → table (suc n) f ≡ f 0 ∷ table n (λ i. f (suc i))
+table-cons zero f = refl
+table-cons {A} (suc n) f = ap (λ (l : List A). l ++ (f (suc n) ∷ [])) (table-cons n f)
+
+pub length-table : {A : Type 0} (n : ℕ) (f : ℕ → A) → length (table n f) ≡ n
+length-table zero f = refl
+length-table (suc n) f = ap length (table-cons n f) ∙ ap suc (length-table n (λ i. f (suc i)))
+
+pub table-at : {A : Type 0} (n : ℕ) (f : ℕ → A) (i : ℕ) (d : A) → i < n → getD (table n f) i d ≡ f i
+table-at zero f i d h = let z : ⊥ = omega arith in absurd z
+table-at {A} (suc n) f zero d h = ap (λ (l : List A). getD l 0 d) (table-cons n f)
+table-at {A} (suc n) f (suc i) d h = ap (λ (l : List A). getD l (suc i) d) (table-cons n f) ∙ table-at n (λ i. f (suc i)) i d (omega arith)
+
+pub map-table : {A B : Type 0} (g : A → B) (n : ℕ) (f : ℕ → A) → map g (table n f) ≡ table n (λ i. g (f i))
+map-table g zero f = refl
+map-table {B = B} g (suc n) f = map-append g (table n f) (f n ∷ []) ∙ ap (λ (l : List B). l ++ (g (f n) ∷ [])) (map-table g n f)
+
+pub table-take : (n : ℕ) (s : List ℕ) → n ≤ length s → table n (at s) ≡ take n s
+table-take zero s h = refl
+table-take (suc n) s h = ap (λ (l : List ℕ). l ++ (at s n ∷ [])) (table-take n s (omega arith)) ∙ sym (take-suc s n 0 h)

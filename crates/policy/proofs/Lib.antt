@@ -1,3 +1,7 @@
 mod Zero
 mod Tables
 mod Pairs
+mod Shifts
+mod Places
+mod Columns
+mod Answers

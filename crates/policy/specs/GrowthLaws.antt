@@ -1,6 +1,6 @@
 -- A record gets one line more: if the line passes its check, every table of the new record loads.
-use Prim.Native.Nat.{ℕ, _≤_, _<_}
-use mathlib.Core.Path.{_≡_, refl, sym, _∙_, subst}
+use Prim.Native.Nat.{ℕ, _<_}
+use mathlib.Core.Path.{_≡_, refl, _∙_, subst}
 use mathlib.Core.Bool.{true, false, not, _&&_}
 use mathlib.Core.List.{List}
 use native.Mathlib.Omega.{arith}
@@ -10,7 +10,7 @@ use borrow.Author.Tests.{ne-eqb, not-false, leb-true}
 use Rattle.common.specs.Lists.{at}
 use Rattle.common.specs.BoolLaws.{and-cases}
 use Rattle.policy.specs.declared.Record.{Record}
-use Rattle.policy.specs.Table.{Kind, head, user, edge, formula, demarcation, hierarchy, principal, exclusion, prerequisite, method, end, code, isKind, count, room, blank, appended}
+use Rattle.policy.specs.Table.{Kind, head, user, edge, formula, demarcation, hierarchy, principal, exclusion, prerequisite, method, end, code, isKind, count, blank, appended}
 use Rattle.policy.specs.Rows.{inRange, rowCauses, rowRefusal}
 use Rattle.policy.specs.RowLaws.{passed}
 use Rattle.policy.specs.Loadable.{tableLoads}

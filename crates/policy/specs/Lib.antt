@@ -3,6 +3,7 @@ pub mod Op
 pub mod Rows
 pub mod Loadable
 pub mod Edits
+pub mod Places
 pub mod OpLaws
 pub mod RowLaws
 pub mod LoadableLaws
@@ -10,3 +11,6 @@ pub mod RoomLaws
 pub mod TableLaws
 pub mod HeightLaws
 pub mod GrowthLaws
+pub mod EdgeLaws
+pub mod ChangedLaws
+pub mod EditLaws

@@ -4,18 +4,20 @@ use mathlib.Core.Path.{_≡_, refl, sym, _∙_, ap, subst₂}
 use mathlib.Core.Logic.{⊎-elim}
 use mathlib.Core.Bool.{Bool, true, false, false≢true, not, _&&_, _||_}
 use mathlib.Core.List.{List, [], _∷_}
+use native.Mathlib.Omega.{arith}
+use lib.ListN.{getD}
 use lib.Dec.{ltb, leb, eqb}
 use borrow.Author.Tests.{ltb-true, leb-true, le-leb, eqb-false, not-true}
 use Rattle.common.specs.Lists.{at, every, below}
-use Rattle.common.specs.ListLaws.{every-more}
+use Rattle.common.specs.ListLaws.{every-more, every-at}
 use Rattle.common.specs.BoolLaws.{and-cases, and-true, and-false}
 use Rattle.common.specs.Causes.{first}
 use Rattle.closure.specs.Closure.{Listed, pairsOf, circular}
 use Rattle.closure.specs.ClosureFact.{listed-append}
 use Rattle.policy.specs.declared.Record.{Record}
-use Rattle.policy.specs.Table.{Kind, head, user, edge, formula, demarcation, hierarchy, principal, exclusion, prerequisite, method, end, count, room, row, rows}
+use Rattle.policy.specs.Table.{Kind, head, user, edge, formula, demarcation, hierarchy, principal, exclusion, prerequisite, method, end, kinds, count, columns, room, row, rows}
 use Rattle.policy.specs.Rows.{causes, pairInRange, pairKey, inRange, rowCauses, rowRefusal}
-use Rattle.policy.specs.Loadable.{zeroFrom, leastPair, pairRefusal, pairsLoad, tableLoads, loadable}
+use Rattle.policy.specs.Loadable.{rowsLoad, zeroFrom, leastPair, pairRefusal, pairsLoad, tableLoads, loadable}
 
 module _ (r : Record) where
   pub hierarchy-pairs : pairsLoad (r .«demarcation_count») (r .«hierarchy_count») (r .inferiors) (r .superiors) ≡ tableLoads r hierarchy
@@ -178,3 +180,37 @@ pub loadable-from : (r : Record) → ((j : Kind) → tableLoads r j ≡ true) �
 unfolding loadable
 loadable-from r loads c =
     rw (loads head, loads user, loads edge, loads formula, loads demarcation, loads hierarchy, loads principal, loads exclusion, loads prerequisite, loads method) c
+
+-- each of its lines is one that loading takes, and its unused places are zero
+pub table-rows : (r : Record) (k : Kind) → tableLoads r k ≡ true → rowsLoad r k (count k r) ≡ true
+unfolding tableLoads
+table-rows r k e = and-cases (rowsLoad r k (count k r)) _ (and-cases (leb (count k r) (room k)) _ e .1) .0
+
+pub table-zero : (r : Record) (k : Kind) → tableLoads r k ≡ true → every (zeroFrom (count k r)) (columns k r) ≡ true
+unfolding tableLoads
+table-zero r k e = and-cases (rowsLoad r k (count k r)) _ (and-cases (leb (count k r) (room k)) _ e .1) .1
+
+-- of a loadable record every table loads
+pub loadable-table : (r : Record) → loadable r ≡ true → (k : Kind) → tableLoads r k ≡ true
+unfolding loadable
+loadable-table r e k = go k
+  where
+    nth : (i : ℕ) → i < 10 → tableLoads r (getD kinds i end) ≡ true
+    nth i h = every-at (tableLoads r) kinds i end (and-cases (every (tableLoads r) kinds) _ e .0) h
+
+    go : (k : Kind) → tableLoads r k ≡ true
+    go head = nth 0 (omega arith)
+    go user = nth 1 (omega arith)
+    go edge = nth 2 (omega arith)
+    go formula = nth 3 (omega arith)
+    go demarcation = nth 4 (omega arith)
+    go hierarchy = nth 5 (omega arith)
+    go principal = nth 6 (omega arith)
+    go exclusion = nth 7 (omega arith)
+    go prerequisite = nth 8 (omega arith)
+    go method = nth 9 (omega arith)
+    go end = end-loads r
+
+-- and there are at most 255 objects
+pub loadable-objects : (r : Record) → loadable r ≡ true → r .objects ≤ 255
+loadable-objects r e = head-range r (loadable-table r e head) .1

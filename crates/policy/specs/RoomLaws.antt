@@ -8,7 +8,7 @@ use native.Mathlib.Omega.{arith}
 use native.Mathlib.Nat.{zero-add, suc-add}
 use native.Mathlib.Decide.{decLt}
 use native.Mathlib.Numerals.{add-one}
-use lib.Dec.{ltb, leb, eqb}
+use lib.Dec.{ltb, eqb}
 use borrow.Author.Tests.{ltb-true, ltb-false, eqb-false, not-true, not-false, eqb-true}
 use Rattle.common.specs.BoolLaws.{and-cases}
 use Rattle.common.specs.Causes.{first}
@@ -18,7 +18,7 @@ use Rattle.policy.specs.declared.Record.{Record}
 use Rattle.policy.specs.Table.{Kind, head, user, edge, formula, demarcation, hierarchy, principal, exclusion, prerequisite, method, end, code, count, room, row}
 use Rattle.policy.specs.Rows.{causes, pairInRange, pairKey, inRange, leastKey, rowCauses, rowRefusal}
 use Rattle.policy.specs.Loadable.{rowsLoad, tableLoads}
-use Rattle.policy.specs.LoadableLaws.{head-range, table-few}
+use Rattle.policy.specs.LoadableLaws.{head-range, table-few, table-rows}
 use Rattle.policy.specs.RowLaws.{passed, row-limit}
 
 -- ---- users: by object
@@ -170,27 +170,23 @@ module _ (r : Record) where
       let p = row-passes exclusion r n e in
       exclusion-more (exclusion-rows few n (p .0)) (r .«principal_count») (at (r .«exclusion_lows») n) (at (r .«exclusion_highs») n) few (p .1) refl (sym (add-one n))
 
-rows-of : (r : Record) (k : Kind) → tableLoads r k ≡ true → rowsLoad r k (count k r) ≡ true
-unfolding tableLoads
-rows-of r k e = and-cases (rowsLoad r k (count k r)) _ (and-cases (leb (count k r) (room k)) _ e .1) .0
-
 -- THE LAW: where the tables load, a line that passes its check has room
 pub room-left : (k : Kind) (r : Record) (v : List ℕ) → 1 < code k → code k < 0xFF → ((j : Kind) → tableLoads r j ≡ true) → rowRefusal k (count k r) r v ≡ 0 → count k r < room k
 unfolding rowRefusal rowCauses inRange
 room-left head r v l h loads e = absurd (omega arith)
-room-left user r v l h loads e = user-room (user-rows r (r .«user_count») (rows-of r user (loads user))) (r .objects) (at v 0) e (head-range r (loads head) .1)
+room-left user r v l h loads e = user-room (user-rows r (r .«user_count») (table-rows r user (loads user))) (r .objects) (at v 0) e (head-range r (loads head) .1)
 room-left edge r v l h loads e = row-limit edge (r .«edge_count») r v refl e
 room-left formula r v l h loads e = row-limit formula (r .«formula_count») r v refl e
 room-left demarcation r v l h loads e = row-limit demarcation (r .«demarcation_count») r v refl e
 room-left hierarchy r v l h loads e =
     let few = table-few r demarcation (loads demarcation) in
-    pair-room (hierarchy-rows r few (r .«hierarchy_count») (rows-of r hierarchy (loads hierarchy))) (r .«demarcation_count») (at v 0) (at v 1) few e
+    pair-room (hierarchy-rows r few (r .«hierarchy_count») (table-rows r hierarchy (loads hierarchy))) (r .«demarcation_count») (at v 0) (at v 1) few e
 room-left principal r v l h loads e = row-limit principal (r .«principal_count») r v refl e
 room-left exclusion r v l h loads e =
     let few = table-few r principal (loads principal) in
-    exclusion-room (exclusion-rows r few (r .«exclusion_count») (rows-of r exclusion (loads exclusion))) (r .«principal_count») (at v 0) (at v 1) few e
+    exclusion-room (exclusion-rows r few (r .«exclusion_count») (table-rows r exclusion (loads exclusion))) (r .«principal_count») (at v 0) (at v 1) few e
 room-left prerequisite r v l h loads e =
     let few = table-few r principal (loads principal) in
-    pair-room (prerequisite-rows r few (r .«prerequisite_count») (rows-of r prerequisite (loads prerequisite))) (r .«principal_count») (at v 0) (at v 1) few e
+    pair-room (prerequisite-rows r few (r .«prerequisite_count») (table-rows r prerequisite (loads prerequisite))) (r .«principal_count») (at v 0) (at v 1) few e
 room-left method r v l h loads e = row-limit method (r .«method_count») r v refl e
 room-left end r v l h loads e = absurd (omega arith)

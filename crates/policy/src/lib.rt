@@ -3,6 +3,7 @@
 ghost use mathlib.Core.Path.{_≡_};
 ghost use Rattle.policy.specs.Table as table;
 
+pub mod edits;
 pub mod loadable;
 pub mod rows;
 

@@ -38,7 +38,7 @@ enum-told : tie.Need-enum-told Inv-loop μ-loop
 enum-told c = search needs
 
 returns-2 : tie.Need-returns-2 Inv-loop μ-loop
-returns-2 c = 
+returns-2 c =
     let h = c .before .before .before in
     going-done _ formula proper-formula 768 _ _ _ (h .loop .inv .0) 6 (sym (c .before .before .next-line .ensures) ∙ c .enum-told .given .1)
 
@@ -49,7 +49,7 @@ stopped-requires : tie.Need-stopped-requires Inv-loop μ-loop
 stopped-requires c κs = lines-fit _ formula (c .before .before .before .before .loop .inv .0) (omega arith)
 
 returns-3 : tie.Need-returns-3 Inv-loop μ-loop
-returns-3 c = 
+returns-3 c =
     let l = c .before .before .before .before in
     subst (Reads _ formula 768 _) (sym (c .stopped .ensures))
     (going-stops _ formula proper-formula 768 _ _ _ (l .before .loop .inv .0) 6 _ refl (sym (l .next-line .ensures) ∙ c .before .before .number .given .1))
@@ -67,7 +67,7 @@ octet-at-requires-3 : tie.Need-octet-at-requires-3 Inv-loop μ-loop
 octet-at-requires-3 c κs = search needs
 
 formula-height-requires : tie.Need-formula-height-requires Inv-loop μ-loop
-formula-height-requires c κs = 
+formula-height-requires c κs =
     let h = c .before .before .before .before .before .before .before in
     heights-low (h .loop .inv .1) (table-few (h .loop .rules) formula (h .loop .inv .0 .begun .loads formula))
 
@@ -97,7 +97,7 @@ refusal q =
     q .formula-refusal .ensures ∙ formula-values (h .loop .rules) (count formula (h .loop .rules)) (q .before .before .before .before .octet-at .result) (q .before .before .before .octet-at2 .result) (q .before .before .octet-at3 .result) (height-here (h .loop .inv .1) (q .before .before .before .before .octet-at .result) (q .before .before .before .octet-at2 .result) (q .before .before .octet-at3 .result) (q .before .formula-height .ensures)) ∙ ap (rowRefusal formula (count formula (h .loop .rules)) (h .loop .rules)) (sym (taken q))
 
 returns-4 : tie.Need-returns-4 Inv-loop μ-loop
-returns-4 c = 
+returns-4 c =
     let q = c .before .before in
     let h = q .before .before .before .before .before .before .before .before .before in
     subst (Reads _ formula 768 _) (sym (c .stopped2 .ensures))
@@ -123,13 +123,13 @@ add-rules : tie.Need-add-rules Inv-loop μ-loop
 add-rules c = omega (arith, room-left c)
 
 past-requires : tie.Need-past-requires Inv-loop μ-loop
-past-requires c κs = 
+past-requires c κs =
     let e = c in
     let h = e .before .before .before .before .before .before .before .before .before .before in
     past-fits _ formula (h .loop .inv .0) (found (e .before .before .before .before .before .before .before)) (omega (arith, room-left e))
 
 loop-less : tie.Need-loop-less Inv-loop μ-loop
-loop-less c = 
+loop-less c =
     let e = c .before in
     let f = found (e .before .before .before .before .before .before .before) in
     let p = ap (λ (x : Cursor). x .place) (c .past .ensures) in
@@ -137,15 +137,16 @@ loop-less c =
 
 loop-again : tie.Need-loop-again Inv-loop μ-loop
 unfolding appended
-loop-again c = 
+loop-again c =
     let e = c .before in
     let h = e .before .before .before .before .before .before .before .before .before .before in
     let f = found (e .before .before .before .before .before .before .before) in
-    let v = ap (appended formula (h .loop .rules)) (taken (e .before)) in
-    (subst₂ (Going _ formula 768 _) (sym (c .past .ensures)) v
-    (going-more _ formula proper-formula 768 _ _ _ (h .loop .inv .0) refl f (sym (sym (refusal (e .before)) ∙ e .if2 .left))),
-    heights-appended (e .before .before .before .before .before .octet-at .result) (e .before .before .before .before .octet-at2 .result) (e .before .before .before .octet-at3 .result)
-    (h .loop .inv .0 .begun .sized) (room-left e) (h .loop .inv .1) (e .before .before .formula-height .ensures))
+    let v = ap (appended formula (h .loop .rules)) (taken (e .before)) in (
+      subst₂ (Going _ formula 768 _) (sym (c .past .ensures)) v
+          (going-more _ formula proper-formula 768 _ _ _ (h .loop .inv .0) refl f (sym (sym (refusal (e .before)) ∙ e .if2 .left))),
+      heights-appended (e .before .before .before .before .before .octet-at .result) (e .before .before .before .before .octet-at2 .result) (e .before .before .before .octet-at3 .result)
+          (h .loop .inv .0 .begun .sized) (room-left e) (h .loop .inv .1) (e .before .before .formula-height .ensures),
+    )
 
 pub read-formulas-spec : {M : Type 1} → statement M
 read-formulas-spec =

@@ -36,7 +36,7 @@ enum-told : tie.Need-enum-told Inv-loop μ-loop
 enum-told c = search needs
 
 returns-2 : tie.Need-returns-2 Inv-loop μ-loop
-returns-2 c = 
+returns-2 c =
     let h = c .before .before .before in
     going-done _ prerequisite proper-prerequisite 1442 _ _ _ (h .loop .inv .0) 5 (sym (c .before .before .next-line .ensures) ∙ c .enum-told .given .1)
 
@@ -47,7 +47,7 @@ stopped-requires : tie.Need-stopped-requires Inv-loop μ-loop
 stopped-requires c κs = lines-fit _ prerequisite (c .before .before .before .before .loop .inv .0) (omega arith)
 
 returns-3 : tie.Need-returns-3 Inv-loop μ-loop
-returns-3 c = 
+returns-3 c =
     let l = c .before .before .before .before in
     subst (Reads _ prerequisite 1442 _) (sym (c .stopped .ensures))
     (going-stops _ prerequisite proper-prerequisite 1442 _ _ _ (l .before .loop .inv .0) 5 _ refl (sym (l .next-line .ensures) ∙ c .before .before .number .given .1))
@@ -87,7 +87,7 @@ refusal q =
     q .pair-refusal .ensures ∙ prerequisite-values (h .loop .rules) (count prerequisite (h .loop .rules)) (q .before .before .octet-at .result) (q .before .octet-at2 .result) (h .loop .inv .1) ∙ ap (rowRefusal prerequisite (count prerequisite (h .loop .rules)) (h .loop .rules)) (sym (taken q))
 
 returns-4 : tie.Need-returns-4 Inv-loop μ-loop
-returns-4 c = 
+returns-4 c =
     let q = c .before .before in
     let h = q .before .before .before .before .before .before .before in
     subst (Reads _ prerequisite 1442 _) (sym (c .stopped2 .ensures))
@@ -110,13 +110,13 @@ after-pair-requires : tie.Need-after-pair-requires Inv-loop μ-loop
 after-pair-requires c κs = search needs
 
 past-requires : tie.Need-past-requires Inv-loop μ-loop
-past-requires c κs = 
+past-requires c κs =
     let e = c .before in
     let h = e .before .before .before .before .before .before .before .before in
     past-fits _ prerequisite (h .loop .inv .0) (found (e .before .before .before .before .before)) (omega (arith, room-left e))
 
 loop-less : tie.Need-loop-less Inv-loop μ-loop
-loop-less c = 
+loop-less c =
     let e = c .before .before in
     let f = found (e .before .before .before .before .before) in
     let p = ap (λ (x : Cursor). x .place) (c .past .ensures) in
@@ -124,13 +124,15 @@ loop-less c =
 
 loop-again : tie.Need-loop-again Inv-loop μ-loop
 unfolding appended
-loop-again c = 
+loop-again c =
     let e = c .before .before in
     let h = e .before .before .before .before .before .before .before .before in
     let f = found (e .before .before .before .before .before) in
-    let v = ap (appended prerequisite (h .loop .rules)) (taken (e .before)) in
-    (subst₂ (Going _ prerequisite 1442 _) (sym (c .past .ensures)) v
-    (going-more _ prerequisite proper-prerequisite 1442 _ _ _ (h .loop .inv .0) refl f (sym (sym (refusal (e .before)) ∙ e .if2 .left))), least-next prerequisite _ (omega arith) (omega arith) (taken (e .before)) (h .loop .inv .0 .begun .sized) (room-left e) (c .before .after-pair .ensures))
+    let v = ap (appended prerequisite (h .loop .rules)) (taken (e .before)) in (
+      subst₂ (Going _ prerequisite 1442 _) (sym (c .past .ensures)) v
+          (going-more _ prerequisite proper-prerequisite 1442 _ _ _ (h .loop .inv .0) refl f (sym (sym (refusal (e .before)) ∙ e .if2 .left))),
+      least-next prerequisite _ (omega arith) (omega arith) (taken (e .before)) (h .loop .inv .0 .begun .sized) (room-left e) (c .before .after-pair .ensures),
+    )
 
 pub read-prerequisites-spec : {M : Type 1} → statement M
 read-prerequisites-spec =
