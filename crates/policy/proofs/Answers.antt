@@ -12,7 +12,7 @@ use Rattle.common.specs.BoolLaws.{and-cases}
 use Rattle.policy.specs.declared.Record.{Record}
 use Rattle.policy.specs.declared.Memo.{Memo}
 use Rattle.policy.specs.declared.Edited.{Edited}
-use Rattle.policy.specs.Table.{edge, row, rows, emptied, column, changed}
+use Rattle.policy.specs.Table.{edge, row, rows, emptied, column, withEdges, changed}
 use Rattle.policy.specs.Rows.{edgeInRange, edgeKey, key}
 use Rattle.policy.specs.Loadable.{loadable}
 use Rattle.policy.specs.LoadableLaws.{loadable-table, loadable-objects, table-few}
@@ -21,7 +21,8 @@ use Rattle.policy.specs.Edits.{edgeIn, inserted, without, added, removed
 use Rattle.policy.specs.EditLaws.{Adds, Removes, added-when, removed-when}
 use Rattle.policy.specs.Places.{keyAt, placeOf}
 use Rattle.policy.proofs.Places.{place-within, place-found, place-absent, place-present, stands-test}
-use Rattle.policy.proofs.Columns.{labels-column, sources-column, targets-column, column-more, column-less}
+use Rattle.policy.specs.ColumnLaws.{labels-column, sources-column, targets-column}
+use Rattle.policy.proofs.Columns.{column-more, column-less}
 
 pub edges-few : (r : Record) → loadable r ≡ true → r .«edge_count» ≤ 512
 edges-few r loads = table-few r edge (loadable-table r loads edge)
@@ -80,42 +81,6 @@ pub stands-inside : (r : Record) (k place : ℕ) {b : Bool} → b ≡ (ltb place
 stands-inside r k place e t = ltb-true place (r .«edge_count») (and-cases (ltb place (r .«edge_count»)) (eqb (keyAt r place) k) (sym e ∙ t) .0)
 
 -- ---- the record of an accepted edit
-
--- with these fields of the edges, and this memo
-abbrev withEdges : Record → ℕ → List ℕ → List ℕ → List ℕ → Memo → Record
-withEdges r n labels sources targets m =
-    record {
-      objects = r .objects;
-      «user_count» = r .«user_count»;
-      «user_objects» = r .«user_objects»;
-      «user_roles» = r .«user_roles»;
-      «edge_count» = n;
-      «edge_labels» = labels;
-      «edge_sources» = sources;
-      «edge_targets» = targets;
-      «formula_count» = r .«formula_count»;
-      «formula_ops» = r .«formula_ops»;
-      «formula_lefts» = r .«formula_lefts»;
-      «formula_rights» = r .«formula_rights»;
-      «demarcation_count» = r .«demarcation_count»;
-      «demarcation_privileges» = r .«demarcation_privileges»;
-      «hierarchy_count» = r .«hierarchy_count»;
-      inferiors = r .inferiors;
-      superiors = r .superiors;
-      «principal_count» = r .«principal_count»;
-      «principal_formulas» = r .«principal_formulas»;
-      «principal_demarcations» = r .«principal_demarcations»;
-      «exclusion_count» = r .«exclusion_count»;
-      «exclusion_lows» = r .«exclusion_lows»;
-      «exclusion_highs» = r .«exclusion_highs»;
-      «prerequisite_count» = r .«prerequisite_count»;
-      prerequisites = r .prerequisites;
-      dependents = r .dependents;
-      «method_count» = r .«method_count»;
-      «method_forms» = r .«method_forms»;
-      «method_privileges» = r .«method_privileges»;
-      memo = m;
-    }
 
 edges-changed : (r : Record) (es : List (List ℕ)) {n : ℕ} {labels sources targets : List ℕ} {m : Memo}
     → n ≡ length es → labels ≡ column 0 es → sources ≡ column 1 es → targets ≡ column 2 es → m ≡ emptied 0 0

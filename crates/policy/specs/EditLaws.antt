@@ -11,12 +11,14 @@ use Rattle.common.specs.ListLaws.{length-table}
 use Rattle.policy.specs.declared.Record.{Record}
 use Rattle.policy.specs.declared.Memo.{Memo}
 use Rattle.policy.specs.declared.Edited.{Edited}
-use Rattle.policy.specs.Table.{edge, row, rows, emptied, changed}
+use Rattle.policy.specs.Table.{edge, row, rows, emptied, changed, withMemo}
 use Rattle.policy.specs.Rows.{edgeInRange}
 use Rattle.policy.specs.Loadable.{loadable}
 use Rattle.policy.specs.LoadableLaws.{loadable-table, loadable-objects, table-few}
 use Rattle.policy.specs.EdgeLaws.{Rising, loadable-rising, inserted-length, inserted-in, inserted-rising, without-length, without-inserted, without-rising}
+use Rattle.policy.specs.TableLaws.{Sized}
 use Rattle.policy.specs.ChangedLaws.{rows-changed, loadable-changed}
+use Rattle.policy.specs.ColumnLaws.{own-edges}
 use Rattle.policy.specs.Edits.{edgeIn, inserted, without, edited, addRefusal, removeRefusal, added, removed}
 
 -- the first cause is not there, nor a later one
@@ -128,10 +130,10 @@ objects-changed : (r : Record) (es : List (List ℕ)) (m : Memo) → changed r e
 unfolding changed
 objects-changed r es m = refl
 
--- a new edge added and removed: the same rules
+-- a new edge added and removed: the same rules, and an emptied memo (the columns have the lengths of the record's arrays: `Sized`)
 module _ (r : Record) (l x y : ℕ) where
-  pub added-removed : added r l x y .number ≡ 0 → removed (added r l x y .rules) l x y ≡ record { number = 0; rules = changed r (rows edge r) (emptied 0 0) }
-  added-removed accepted =
+  pub added-removed : Sized r → added r l x y .number ≡ 0 → removed (added r l x y .rules) l x y ≡ record { number = 0; rules = withMemo r (emptied 0 0) }
+  added-removed sized accepted =
       let s = added r l x y .rules in
       let is = added-is r l x y accepted in
       let a = adds r l x y accepted in
@@ -146,4 +148,4 @@ module _ (r : Record) (l x y : ℕ) where
         present = ap (λ (es : List (List ℕ)). edgeIn es (l ∷ x ∷ y ∷ [])) holds ∙ inserted-in (l ∷ x ∷ y ∷ []) (same-own (l ∷ x ∷ y ∷ [])) (rows edge r);
       })
       ∙ (λ j. record { number = 0; rules = changed (is j) (back j) (emptied 0 0) })
-      ∙ ap (λ (t : Record). record { number = 0; rules = t }) (changed-twice r _ (rows edge r) (emptied 0 0))
+      ∙ ap (λ (t : Record). record { number = 0; rules = t }) (changed-twice r _ (rows edge r) (emptied 0 0) ∙ own-edges r (emptied 0 0) sized (a .loads))

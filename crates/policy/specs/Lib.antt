@@ -13,4 +13,5 @@ pub mod HeightLaws
 pub mod GrowthLaws
 pub mod EdgeLaws
 pub mod ChangedLaws
+pub mod ColumnLaws
 pub mod EditLaws

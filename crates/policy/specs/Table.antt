@@ -185,18 +185,18 @@ appended k r v =
 abbrev pub column : ℕ → List (List ℕ) → List ℕ
 column j es = map (λ e. at e j) es ++ replicate (512 - length es) 0
 
--- the record with these edges, in this order, and this memo
-unfoldable pub changed : Record → List (List ℕ) → Memo → Record
-changed r es m =
+-- the record with these fields of the edges, and this memo
+abbrev pub withEdges : Record → ℕ → List ℕ → List ℕ → List ℕ → Memo → Record
+withEdges r n labels sources targets m =
     record {
       objects = r .objects;
       «user_count» = r .«user_count»;
       «user_objects» = r .«user_objects»;
       «user_roles» = r .«user_roles»;
-      «edge_count» = length es;
-      «edge_labels» = column 0 es;
-      «edge_sources» = column 1 es;
-      «edge_targets» = column 2 es;
+      «edge_count» = n;
+      «edge_labels» = labels;
+      «edge_sources» = sources;
+      «edge_targets» = targets;
       «formula_count» = r .«formula_count»;
       «formula_ops» = r .«formula_ops»;
       «formula_lefts» = r .«formula_lefts»;
@@ -221,38 +221,10 @@ changed r es m =
       memo = m;
     }
 
+-- the record with these edges, in this order, and this memo
+unfoldable pub changed : Record → List (List ℕ) → Memo → Record
+changed r es m = withEdges r (length es) (column 0 es) (column 1 es) (column 2 es) m
+
 -- the record with this memo
 unfoldable pub withMemo : Record → Memo → Record
-withMemo r m =
-    record {
-      objects = r .objects;
-      «user_count» = r .«user_count»;
-      «user_objects» = r .«user_objects»;
-      «user_roles» = r .«user_roles»;
-      «edge_count» = r .«edge_count»;
-      «edge_labels» = r .«edge_labels»;
-      «edge_sources» = r .«edge_sources»;
-      «edge_targets» = r .«edge_targets»;
-      «formula_count» = r .«formula_count»;
-      «formula_ops» = r .«formula_ops»;
-      «formula_lefts» = r .«formula_lefts»;
-      «formula_rights» = r .«formula_rights»;
-      «demarcation_count» = r .«demarcation_count»;
-      «demarcation_privileges» = r .«demarcation_privileges»;
-      «hierarchy_count» = r .«hierarchy_count»;
-      inferiors = r .inferiors;
-      superiors = r .superiors;
-      «principal_count» = r .«principal_count»;
-      «principal_formulas» = r .«principal_formulas»;
-      «principal_demarcations» = r .«principal_demarcations»;
-      «exclusion_count» = r .«exclusion_count»;
-      «exclusion_lows» = r .«exclusion_lows»;
-      «exclusion_highs» = r .«exclusion_highs»;
-      «prerequisite_count» = r .«prerequisite_count»;
-      prerequisites = r .prerequisites;
-      dependents = r .dependents;
-      «method_count» = r .«method_count»;
-      «method_forms» = r .«method_forms»;
-      «method_privileges» = r .«method_privileges»;
-      memo = m;
-    }
+withMemo r m = withEdges r (r .«edge_count») (r .«edge_labels») (r .«edge_sources») (r .«edge_targets») m
