@@ -1,6 +1,4 @@
-mod Nexts
-mod Numbers
-mod Lines
-mod Going
-mod Bodies
-mod Ends
+pub mod Fields
+pub mod Answers
+pub mod Puts
+pub mod Whole

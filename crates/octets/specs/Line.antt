@@ -111,3 +111,13 @@ framed kind body = (length body ∷ kind ∷ body) ++ (check (total (length body
 -- octets as the bytes of a line
 abbrev pub lineBytes : List ℕ → List ℕ
 lineBytes os = digits os ++ (0x0A ∷ [])
+
+-- lines as bytes
+abbrev pub textOf : List (List ℕ) → List ℕ
+textOf [] = []
+textOf (os ∷ ls) = lineBytes os ++ textOf ls
+
+-- the plain sum of all octets of lines
+abbrev pub totals : List (List ℕ) → ℕ
+totals [] = 0
+totals (os ∷ ls) = total os + totals ls

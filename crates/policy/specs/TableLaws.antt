@@ -180,7 +180,7 @@ module _ (k : Kind) (r : Record) (v : List ℕ) (l : code head < code k) (h : co
 
 module _ (k : Kind) (r : Record) (v : List ℕ) (body : code head < code k) where
   -- the line at a place below the count, its formula's height, its least key and what it is held to stay
-  row-kept : (j : Kind) (i : ℕ) → i < count j r → row j i (appended k r v) ≡ row j i r
+  pub row-kept : (j : Kind) (i : ℕ) → i < count j r → row j i (appended k r v) ≡ row j i r
   unfolding appended
   row-kept head i l = rw (other-above k head body)
   row-kept user i l = simp put-above
@@ -267,7 +267,7 @@ table-kept k j r v l =
 -- ---- the new line
 
 -- v's numbers from the one at i on, one for each of the columns
-abbrev values : List (List ℕ) → List ℕ → ℕ → List ℕ
+abbrev pub values : List (List ℕ) → List ℕ → ℕ → List ℕ
 values [] v i = []
 values (c ∷ cs) v i = at v i ∷ values cs v (suc i)
 
@@ -299,7 +299,7 @@ refusal-values end n r v = refl
 
 module _ (k : Kind) (r : Record) (v : List ℕ) (l : code head < code k) (h : code k < code end) (s : Sized r) (few : count k r < room k) where
   -- the line at the count is v, and the check at its place is v's
-  new-row : row k (count k r) (appended k r v) ≡ values (columns k r) v 0
+  pub new-row : row k (count k r) (appended k r v) ≡ values (columns k r) v 0
   new-row = ap (map (λ c. at c (count k r))) (columns-same k r v l h) ∙ row-written (count k r) (room k) few v (columns k r) 0 (s .long k)
 
   new-refusal : rowRefusal k (count k r) (appended k r v) (row k (count k r) (appended k r v)) ≡ rowRefusal k (count k r) r v

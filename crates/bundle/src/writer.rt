@@ -1,0 +1,194 @@
+// Writing a record: the lines of its tables in the order of the kinds, then the end line.
+
+ghost use mathlib.Core.Path.{_≡_};
+ghost use mathlib.Core.Bool.{true};
+ghost use mathlib.Core.List.{[], _∷_};
+ghost use lib.ListN.{length};
+ghost use Rattle.policy.specs.Table.{end};
+ghost use Rattle.policy.specs.Loadable.{loadable};
+ghost use Rattle.writing.specs.Drafts.{Fits, Put};
+ghost use Rattle.reading.specs.Body.{widths};
+ghost use Rattle.bundle.specs.Writing.{body, lineOctets, bundleOf, measured};
+ghost use Rattle.bundle.specs.Typed.{Typed};
+ghost use Rattle.bundle.specs.Parts.{graphLines, groundLines, start, Room, Writes};
+use crate::Written;
+use policy::Record;
+use writing::Draft;
+
+// The length of a loadable record's bundle: so many bytes for each line.
+fn bundle_length(rules: Record) -> usize
+    requires { ⌜ loadable rules ≡ true ⌝ }
+    ensures { λ r. ⌜ r ≡ length (bundleOf rules) ⌝ }
+{
+    let two = rules.hierarchy_count
+        + rules.principal_count
+        + rules.exclusion_count
+        + rules.prerequisite_count;
+    let three = rules.user_count + rules.edge_count + rules.formula_count;
+    let wide = 23 * rules.demarcation_count + 25 * rules.method_count;
+    11 + 13 * three + 11 * two + wide + 19
+}
+
+// The length that the writer needs, without writing: 19 with length 0 where no bundle loads to the record.
+pub fn measure(rules: Record) -> Written
+    ensures { λ r. ⌜ (r ≡ measured rules) × Typed rules ⌝ }
+{
+    if !policy::loadable::loadable(rules) {
+        return Written {
+            number: common::REFUSED_RECORD,
+            length: 0,
+        };
+    }
+    let length = bundle_length(rules);
+    Written {
+        number: 0,
+        length: length,
+    }
+}
+
+// Kinds 01 to 05, from the start of the buffer on.
+fn put_graph(rules: Record, buffer: &mut [u8]) -> Draft
+    requires { ⌜ (loadable rules ≡ true) × Typed rules × Room (now buffer) start (graphLines rules) ⌝ }
+    ensures { λ r. ⌜ Put (now (buffer .entry)) (now (buffer .exit)) start r (graphLines rules) ⌝ }
+{
+    let from = Draft {
+        place: 0,
+        lines: 0,
+        sum: 0,
+    };
+    let body = [1, rules.objects];
+    let head = writing::put_line(buffer, from, 0x01, &body);
+    let user_count = rules.user_count;
+    let users = writing::put_users(
+        buffer,
+        head,
+        user_count,
+        &rules.user_objects,
+        &rules.user_roles,
+    );
+    let edge_count = rules.edge_count;
+    let edges = writing::put_triples(
+        buffer,
+        users,
+        0x03,
+        edge_count,
+        &rules.edge_labels,
+        &rules.edge_sources,
+        &rules.edge_targets,
+    );
+    let formula_count = rules.formula_count;
+    let formulas = writing::put_triples(
+        buffer,
+        edges,
+        0x04,
+        formula_count,
+        &rules.formula_ops,
+        &rules.formula_lefts,
+        &rules.formula_rights,
+    );
+    let demarcation_count = rules.demarcation_count;
+    writing::put_demarcations(
+        buffer,
+        formulas,
+        demarcation_count,
+        &rules.demarcation_privileges,
+    )
+}
+
+// Kinds 06 to 0A, after those before them.
+fn put_grounds(rules: Record, buffer: &mut [u8], from: Draft) -> Draft
+    requires { ⌜ (loadable rules ≡ true) × Typed rules × Room (now buffer) from (groundLines rules) ⌝ }
+    ensures { λ r. ⌜ Put (now (buffer .entry)) (now (buffer .exit)) from r (groundLines rules) ⌝ }
+{
+    let hierarchy_count = rules.hierarchy_count;
+    let hierarchy = writing::put_pairs(
+        buffer,
+        from,
+        0x06,
+        hierarchy_count,
+        &rules.inferiors,
+        &rules.superiors,
+    );
+    let principal_count = rules.principal_count;
+    let principals = writing::put_pairs(
+        buffer,
+        hierarchy,
+        0x07,
+        principal_count,
+        &rules.principal_formulas,
+        &rules.principal_demarcations,
+    );
+    let exclusion_count = rules.exclusion_count;
+    let exclusions = writing::put_pairs(
+        buffer,
+        principals,
+        0x08,
+        exclusion_count,
+        &rules.exclusion_lows,
+        &rules.exclusion_highs,
+    );
+    let prerequisite_count = rules.prerequisite_count;
+    let prerequisites = writing::put_pairs(
+        buffer,
+        exclusions,
+        0x09,
+        prerequisite_count,
+        &rules.prerequisites,
+        &rules.dependents,
+    );
+    let method_count = rules.method_count;
+    writing::put_methods(
+        buffer,
+        prerequisites,
+        method_count,
+        &rules.method_forms,
+        &rules.method_privileges,
+    )
+}
+
+// The body of the end line: the count of the lines, and the plain sum of their octets.
+fn end_body(lines: usize, sum: usize) -> [u8; 6]
+    ensures { λ r. ⌜ r ≡ body (widths end) (lines ∷ sum ∷ []) ⌝ }
+{
+    let s2 = sum / 256;
+    let s1 = s2 / 256;
+    let s0 = s1 / 256;
+    [
+        (lines / 256 % 256) as u8,
+        (lines % 256) as u8,
+        (s0 % 256) as u8,
+        (s1 % 256) as u8,
+        (s2 % 256) as u8,
+        (sum % 256) as u8,
+    ]
+}
+
+// The end line, after all others.
+fn put_end(buffer: &mut [u8], from: Draft) -> Draft
+    requires { ⌜ Fits (now buffer) from 1 19 ⌝ }
+    ensures { λ r. ⌜ Put (now (buffer .entry)) (now (buffer .exit)) from r (lineOctets end (from .lines ∷ from .sum ∷ []) ∷ []) ⌝ }
+{
+    let body = end_body(from.lines, from.sum);
+    writing::put_line(buffer, from, 0xFF, &body)
+}
+
+// Writes a record's bundle at the start of the buffer. 19: no bundle loads to the record, and the length is 0.
+// 18: the buffer is too short, and the length is that needed. A refusal leaves the buffer.
+pub fn write(rules: Record, buffer: &mut [u8]) -> Written
+    ensures { λ r. ⌜ Writes rules (now (buffer .entry)) (now (buffer .exit)) r ⌝ }
+{
+    let needed = measure(rules);
+    if needed.number != 0 {
+        return needed;
+    }
+    if buffer.len() < needed.length {
+        return Written {
+            number: common::REFUSED_BUFFER,
+            length: needed.length,
+        };
+    }
+    let graph = put_graph(rules, buffer);
+    let grounds = put_grounds(rules, buffer, graph);
+    put_end(buffer, grounds);
+    needed
+}

@@ -1,0 +1,233 @@
+-- The first line and the last: what loading makes of a head, of an end line, and of what follows it.
+use Prim.Native.Nat.{ℕ, _+_, _≤_, _<_}
+use mathlib.Core.Path.{_≡_, refl, sym, _∙_, ap}
+use mathlib.Core.Logic.{_≢_}
+use mathlib.Core.Bool.{Bool, true, false, not, cond, _&&_, _||_}
+use mathlib.Core.List.{List, [], _∷_}
+use native.Mathlib.Omega.{arith}
+use native.Mathlib.Decide.{ℕ-discrete}
+use lib.ListN.{length, drop, length-drop, drop-of-length-le}
+use lib.Dec.{leb, eqb}
+use borrow.Author.Tests.{eq-eqb, ne-eqb}
+use Rattle.common.specs.Lists.{at}
+use Rattle.common.specs.BoolLaws.{and-false}
+use Rattle.common.specs.Causes.{first}
+use Rattle.common.specs.Refusals.{wrongKind, wrongEnd}
+use Rattle.common.specs.Refusals as refusals
+use Rattle.closure.specs.Closure.{circular}
+use Rattle.octets.specs.Line.{Framed, refused, octets, kindOctet, bodyOf, restOf, frame, lines}
+use Rattle.octets.specs.LineLaws.{accepted, lines-none, lines-cons}
+use Rattle.policy.specs.declared.Record.{Record}
+use Rattle.policy.specs.Table.{Kind, head, user, edge, formula, demarcation, hierarchy, principal, exclusion, prerequisite, method, end, code, isKind, rows, blank, appended, kindOf}
+use Rattle.policy.specs.Rows.{causes, inRange, rowCauses, rowRefusal}
+use Rattle.policy.specs.TableLaws.{sized-blank, sized-appended, count-other}
+use Rattle.policy.specs.GrowthLaws.{blank-empty, tables-first}
+use Rattle.reading.specs.declared.Next.the-variants.{Other, Refused}
+use Rattle.reading.specs.declared.Cursor.{Cursor}
+use Rattle.reading.specs.declared.Stage.{Stage}
+use Rattle.reading.specs.Body.{numbers}
+use Rattle.reading.specs.Loading.{Reading, misplaced, endWrong, lineRefusal, afterLine, notLoaded, atEnd, read, load}
+use Rattle.reading.specs.Stages.{nextOf, numberAt, reading, outcome, refusedAt, movedPast, afterEnd, endedAt, Ready, Starts}
+use Rattle.reading.proofs.Lines.{misplaced-other, misplaced-below, misplaced-after, misplaced-first, misplaced-head, well-placed, placed-first, refused-place, refused-row, read-not, read-on, Found, sum-most, refused-line, other-line, body-length, stops-reading}
+use Rattle.reading.proofs.Bodies.{numbers-are}
+use Rattle.reading.proofs.Going.{stage, outcome-on, outcome-stopped}
+
+-- ---- an empty text
+
+pub load-empty : (text : List ℕ) → length text ≡ 0 → notLoaded wrongEnd 1 ≡ load text
+unfolding load read atEnd lines
+load-empty [] e = refl
+load-empty (b ∷ text) e = absurd (omega arith)
+
+-- ---- the head
+
+-- the cursor at the top
+abbrev pub top : Cursor
+top = record { number = 0; place = 0; lines = 0; last = 0; sum = 0 }
+
+from-top : (text : List ℕ) → load text ≡ read (reading (stage top blank)) (lines (drop 0 text))
+unfolding load
+from-top text = refl
+
+module _ (text : List ℕ) where
+  starts-not : (n : ℕ) (r : Record) → n ≢ 0 → read (reading (stage top blank)) (lines (drop 0 text)) ≡ notLoaded n 1 → Starts text (refusedAt top n r)
+  starts-not n r h q = record { same = outcome-stopped text top n r h ∙ sym (from-top text ∙ q); ready = λ z. absurd (h z) }
+
+  pub head-stops : (n : ℕ) (r : Record) → nextOf text 0 0x01 5 ≡ Refused n → Starts text (refusedAt top n r)
+  head-stops n r e =
+      let (h, q) = stops-reading (reading (stage top blank)) text 0 head 5 n refl (refused-line text 0 0x01 5 e) in
+      starts-not n r h q
+
+  pub head-other : (r : Record) → 0 < length text → nextOf text 0 0x01 5 ≡ Other → Starts text (refusedAt top wrongKind r)
+  head-other r l e =
+      let (os, f, h) = other-line text 0 0x01 5 l e in
+      let t = reading (stage top blank) in
+      let k = kindOf (kindOctet os) in
+      starts-not wrongKind r (λ z. omega arith) (read-not t text 0 l f k refl (refused-place t k os (misplaced-first t k os refl h)) (λ z. omega arith))
+
+  module _ {next sum : ℕ} (f : Found text 0 0x01 5 next sum) (version objects : ℕ) (v : numbers head (f .os) ≡ version ∷ objects ∷ []) where
+    sizes : length (bodyOf (f .os)) ≡ 2
+    sizes = let h = accepted (f .framed) .long in let u = body-length (f .os) (omega arith) in let z = f .sized in omega arith
+
+    head-row : lineRefusal (reading (stage top blank)) head (f .os) ≡ first (causes false (not (eqb version 1 && (leb 1 objects && leb objects 255))) false)
+    unfolding rowRefusal rowCauses inRange
+    head-row =
+        refused-row (reading (stage top blank)) head (f .os) (placed-first (reading (stage top blank)) (f .os) (f .ours) refl refl sizes) refl ∙ ap (rowRefusal head 1 blank) v
+
+    pub head-refused : (n : ℕ) (r : Record) → n ≡ first (causes false (not (eqb version 1 && (leb 1 objects && leb objects 255))) false) → n ≢ 0 → Starts text (refusedAt top n r)
+    head-refused n r e h =
+        starts-not n r h (read-not (reading (stage top blank)) text 0 (f .within) (f .framed) head (ap kindOf (f .ours)) (head-row ∙ sym e) h)
+
+    pub head-taken : 0 ≡ first (causes false (not (eqb version 1 && (leb 1 objects && leb objects 255))) false)
+        → Starts text (stage (movedPast top 0x01 next sum) (appended head blank (version ∷ objects ∷ [])))
+    unfolding afterLine rowRefusal rowCauses inRange
+    head-taken e =
+        record {
+          same = outcome-on text s refl ∙ sym (from-top text ∙ moved);
+          ready = λ z. record {
+            begun = record { some = omega arith; few = omega arith; sum = (let m = sum-most _ (f .framed) in let d = f .summed in omega arith); sized = sized-appended head w sized-blank; loads = tables-first w (passes ∙ sym e) };
+            last = omega arith;
+            empty = λ j l. count-other head j blank w (ne-eqb 1 (code j) (λ q. omega arith)) ∙ blank-empty j (omega arith);
+            others = λ os q l. below os (ℕ-discrete (kindOctet os) 1) l;
+          };
+        }
+      where
+        w : List ℕ
+        w = version ∷ objects ∷ []
+
+        s : Stage
+        s = stage (movedPast top 0x01 next sum) (appended head blank (version ∷ objects ∷ []))
+
+        passes : rowRefusal head 1 blank w ≡ first (causes false (not (eqb version 1 && (leb 1 objects && leb objects 255))) false)
+        passes = refl
+
+        moved : read (reading (stage top blank)) (lines (drop 0 text)) ≡ read (reading s) (lines (drop next text))
+        moved =
+            read-on (reading (stage top blank)) text 0 (f .within) (f .framed) head (ap kindOf (f .ours)) (head-row ∙ sym e)
+            ∙ (λ i. read (record { lines = 0 + 1; last = 1; sum = 0 + sym (f .summed) i; rules = appended head blank (v i) }) (lines (drop (sym (f .follows) i) text)))
+
+        below : (os : List ℕ) → Dec (kindOctet os ≡ 1) → kindOctet os < 2 → misplaced (reading s) (kindOf (kindOctet os)) os ≡ true
+        below os (yes q) l = misplaced-head (reading s) (kindOf (kindOctet os)) os (λ z. omega arith) (ap (λ (c : ℕ). isKind (kindOf c) head) q)
+        below os (no h) l = misplaced-below (reading s) (kindOf (kindOctet os)) os (omega arith)
+
+-- ---- the end line
+
+-- what follows an end line
+pub read-ended : (t : Reading) (ls : List Framed) → t .last ≡ 0xFF → read t ls ≡ afterEnd (t .lines) (t .rules) ls
+unfolding read atEnd
+read-ended t [] e = rw (eq-eqb (t .last) 0xFF e)
+read-ended t (refused n ∷ ls) e = refl
+read-ended t (octets os ∷ ls) e =
+    let k = kindOf (kindOctet os) in
+    let r = refused-place t k os (misplaced-after t k os e) in
+    (λ i. cond (eqb (r i) 0) (read (afterLine t k os) ls) (notLoaded (r i) (t .lines + 1)))
+
+-- a known kind but the end is at most 0A
+code-most : (k : Kind) → code k ≢ 0xFF → code k < 0x0B
+code-most head h = omega arith
+code-most user h = omega arith
+code-most edge h = omega arith
+code-most formula h = omega arith
+code-most demarcation h = omega arith
+code-most hierarchy h = omega arith
+code-most principal h = omega arith
+code-most exclusion h = omega arith
+code-most prerequisite h = omega arith
+code-most method h = omega arith
+code-most end h = absurd (h refl)
+
+pub finish-refused : (text : List ℕ) (s : Stage) → s .at .number ≢ 0 → notLoaded (s .at .number) (s .at .lines) ≡ outcome text s
+unfolding outcome
+finish-refused text s h = rw (ne-eqb (s .at .number) 0 h)
+
+module _ (text : List ℕ) (s : Stage) (most : ℕ) (z : s .at .number ≡ 0) (r : Ready text 0x0B most s) where
+  on : outcome text s ≡ read (reading s) (lines (drop (s .at .place) text))
+  on = outcome-on text s z
+
+  not-ended : s .at .last ≢ 0xFF
+  not-ended e = let l = r .last in omega arith
+
+  -- there is no end line
+  pub finish-missing : length text ≤ s .at .place → notLoaded wrongEnd (s .at .lines + 1) ≡ outcome text s
+  unfolding read atEnd
+  finish-missing l =
+      sym (on ∙ ap (λ (u : List ℕ). read (reading s) (lines u)) (drop-of-length-le text l) ∙ ap (read (reading s)) lines-none
+      ∙ rw (ne-eqb (s .at .last) 0xFF not-ended))
+
+  -- a line of another kind
+  pub finish-other : s .at .place < length text → nextOf text (s .at .place) 0xFF 9 ≡ Other → notLoaded wrongKind (s .at .lines + 1) ≡ outcome text s
+  finish-other l e =
+      let (os, f, h) = other-line text (s .at .place) 0xFF 9 l e in
+      let k = kindOf (kindOctet os) in
+      sym (on ∙ read-not (reading s) text (s .at .place) l f k refl (refused-place (reading s) k os (wrong os f h (ℕ-discrete (kindOctet os) (code k)))) (λ q. omega arith))
+    where
+      wrong : (os : List ℕ) → frame (drop (s .at .place) text) ≡ octets os → kindOctet os ≢ 0xFF → Dec (kindOctet os ≡ code (kindOf (kindOctet os))) → misplaced (reading s) (kindOf (kindOctet os)) os ≡ true
+      wrong os f h (yes q) = r .others os f (let c = code-most (kindOf (kindOctet os)) (λ u. h (q ∙ u)) in omega arith)
+      wrong os f h (no q) = misplaced-other (reading s) (kindOf (kindOctet os)) os q
+
+  pub finish-stops : (n : ℕ) → nextOf text (s .at .place) 0xFF 9 ≡ Refused n → notLoaded n (s .at .lines + 1) ≡ outcome text s
+  finish-stops n e = sym (on ∙ stops-reading (reading s) text (s .at .place) end 9 n refl (refused-line text (s .at .place) 0xFF 9 e) .1)
+
+  module _ {next sum : ℕ} (f : Found text (s .at .place) 0xFF 9 next sum) where
+    known : kindOf (kindOctet (f .os)) ≡ end
+    known = ap kindOf (f .ours)
+
+    placed : misplaced (reading s) end (f .os) ≡ false
+    placed =
+        let h = accepted (f .framed) .long in
+        let u = body-length (f .os) (omega arith) in
+        let d = f .sized in
+        let l = r .last in
+        well-placed (reading s) end (f .os) (f .ours) not-ended refl (r .begun .some) (omega arith) (omega arith)
+
+    numbers-end : numbers end (f .os) ≡ numberAt (drop (s .at .place) text) 2 2 ∷ numberAt (drop (s .at .place) text) 4 4 ∷ []
+    numbers-end = numbers-are (drop (s .at .place) text) (f .os) 6 (f .framed) (f .sized) end refl
+
+    end-refusal : lineRefusal (reading s) end (f .os)
+        ≡ cond (not (eqb (numberAt (drop (s .at .place) text) 2 2) (s .at .lines) && eqb (numberAt (drop (s .at .place) text) 4 4) (s .at .sum))) wrongEnd 0
+    unfolding lineRefusal endWrong rowCauses inRange
+    end-refusal = rw placed (λ i. cond (not (eqb (at (numbers-end i) 0) (s .at .lines) && eqb (at (numbers-end i) 1) (s .at .sum))) wrongEnd 0)
+
+    pub finish-count : {n : ℕ} → n ≡ numberAt (drop (s .at .place) text) 2 2 → n ≢ s .at .lines → notLoaded wrongEnd (s .at .lines + 1) ≡ outcome text s
+    finish-count {n} e h =
+        sym (on ∙ read-not (reading s) text (s .at .place) (f .within) (f .framed) end known
+        (end-refusal ∙ rw (ne-eqb (numberAt (drop (s .at .place) text) 2 2) (s .at .lines) (λ q. h (e ∙ q)))) (λ q. omega arith))
+
+    pub finish-sum : {n : ℕ} → n ≡ numberAt (drop (s .at .place) text) 4 4 → n ≢ s .at .sum → notLoaded wrongEnd (s .at .lines + 1) ≡ outcome text s
+    finish-sum {n} e h =
+        sym (on ∙ read-not (reading s) text (s .at .place) (f .within) (f .framed) end known
+        (end-refusal ∙ rw (ne-eqb (numberAt (drop (s .at .place) text) 4 4) (s .at .sum) (λ q. h (e ∙ q)), and-false (eqb (numberAt (drop (s .at .place) text) 2 2) (s .at .lines)))) (λ q. omega arith))
+
+    pub finish-ended : {n m : ℕ} → n ≡ numberAt (drop (s .at .place) text) 2 2 → n ≡ s .at .lines → m ≡ numberAt (drop (s .at .place) text) 4 4 → m ≡ s .at .sum
+        → endedAt text next (s .at .lines + 1) (s .rules) ≡ outcome text s
+    unfolding endedAt afterLine appended
+    finish-ended e e′ g g′ =
+        sym (on
+        ∙ read-on (reading s) text (s .at .place) (f .within) (f .framed) end known
+        (end-refusal ∙ rw (eq-eqb (numberAt (drop (s .at .place) text) 2 2) (s .at .lines) (sym e ∙ e′), eq-eqb (numberAt (drop (s .at .place) text) 4 4) (s .at .sum) (sym g ∙ g′)))
+        ∙ read-ended (afterLine (reading s) end (f .os)) _ refl
+        ∙ ap (λ (n : ℕ). afterEnd (s .at .lines + 1) (s .rules) (lines (drop n text))) (sym (f .follows)))
+
+-- ---- after the end line
+
+module _ (text : List ℕ) (place n : ℕ) (r : Record) where
+  pub ended-refused : place < length text → {k : ℕ} → frame (drop place text) ≡ refused k → notLoaded k (n + 1) ≡ endedAt text place n r
+  unfolding endedAt
+  ended-refused l e =
+      sym (ap (afterEnd n r) (lines-cons (drop place text) (omega (arith, length-drop place text)) ∙ ap (λ (f : Framed). f ∷ lines (restOf (drop place text))) e))
+
+  pub ended-more : place < length text → {os : List ℕ} → frame (drop place text) ≡ octets os → notLoaded wrongKind (n + 1) ≡ endedAt text place n r
+  unfolding endedAt
+  ended-more l e =
+      sym (ap (afterEnd n r) (lines-cons (drop place text) (omega (arith, length-drop place text)) ∙ ap (λ (f : Framed). f ∷ lines (restOf (drop place text))) e))
+
+  ended-here : length text ≤ place → endedAt text place n r ≡ afterEnd n r []
+  unfolding endedAt
+  ended-here l = ap (afterEnd n r) (ap lines (drop-of-length-le text l) ∙ lines-none)
+
+  module _ (l : length text ≤ place) {b : Bool} (e : b ≡ (circular (rows hierarchy r) || circular (rows prerequisite r))) where
+    pub ended-circle : b ≡ true → notLoaded refusals.circle n ≡ endedAt text place n r
+    ended-circle h = sym (ended-here l ∙ rw (sym e ∙ h))
+
+    pub ended-well : b ≡ false → record { number = 0; line = 0; rules = r } ≡ endedAt text place n r
+    ended-well h = sym (ended-here l ∙ rw (sym e ∙ h))

@@ -1,0 +1,6 @@
+mod Nexts
+mod Numbers
+mod Lines
+mod Going
+mod Bodies
+mod Ends

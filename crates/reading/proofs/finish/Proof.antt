@@ -1,0 +1,138 @@
+-- `finish` meets its contract: each way out is a law of `Ends`.
+use mathlib.Core.Path.{sym, _∙_}
+use native.Mathlib.Omega.{arith}
+use borrow.Author.Needs.{needs}
+use Rattle.reading.specs.Stages.{Ready}
+use Rattle.reading.proofs.Lines.{Found, found-line}
+use Rattle.reading.proofs.Ends.{finish-refused, finish-missing, finish-other, finish-stops, finish-count, finish-sum, finish-ended}
+use Rattle.reading.proofs.finish.Statement.{statement}
+use Rattle.reading.proofs.finish.Tie as tie
+
+not-loaded-requires : tie.Need-not-loaded-requires
+not-loaded-requires c κs = search needs
+
+-- what the stage is ready for, past the test of its number
+ready : (e : tie.Else1) → let a = e .before .before .before .before .before .args in Ready (a .text .now) 0x0B 1854 (a .from)
+ready e = e .before .before .before .before .before .pre (e .if1 .left)
+
+-- the end line that was found
+found : (n : tie.After-next) → let a = n .before .before .before .before .before .before .before .before .before .args in Found (a .text .now) (a .from .at .place) 0xFF 9 (n .next .given .0 .0) (n .next .given .0 .1 .0)
+found n = found-line _ _ 0xFF 9 (sym (n .before .before .next-line .ensures) ∙ n .next .given .1)
+
+returns : tie.Need-returns
+returns c = c .not-loaded .ensures ∙ finish-refused _ _ (c .before .if1 .taken)
+
+add-not-loaded : tie.Need-add-not-loaded
+add-not-loaded c = let b = ready (c .before .before) .begun .few in omega arith
+
+not-loaded-requires-2 : tie.Need-not-loaded-requires-2
+not-loaded-requires-2 c κs = search needs
+
+returns-2 : tie.Need-returns-2
+returns-2 c =
+    let e = c .before .before .before in
+    c .not-loaded2 .ensures ∙ finish-missing _ _ 1854 (e .if1 .left) (ready e) (c .before .before .if2 .taken)
+
+next-line-requires : tie.Need-next-line-requires
+next-line-requires c κs = search needs
+
+enum-told : tie.Need-enum-told
+enum-told c = search needs
+
+add-not-loaded-2 : tie.Need-add-not-loaded-2
+add-not-loaded-2 c = let b = ready (c .before .before .before .before .before) .begun .few in omega arith
+
+not-loaded-requires-3 : tie.Need-not-loaded-requires-3
+not-loaded-requires-3 c κs = search needs
+
+enum-known-number : tie.Need-enum-known-number
+enum-known-number c = search needs
+
+add-not-loaded-3 : tie.Need-add-not-loaded-3
+add-not-loaded-3 c = let b = ready (c .before .before .before .before .before .before) .begun .few in omega arith
+
+not-loaded-requires-4 : tie.Need-not-loaded-requires-4
+not-loaded-requires-4 c κs = search needs
+
+enum-known-next : tie.Need-enum-known-next
+enum-known-next c = search needs
+
+number-at-requires : tie.Need-number-at-requires
+number-at-requires c κs = search needs
+
+number-at-requires-2 : tie.Need-number-at-requires-2
+number-at-requires-2 c κs = search needs
+
+add-not-loaded-4 : tie.Need-add-not-loaded-4
+add-not-loaded-4 c = let b = ready (c .before .before .before .before .before .before .before .before .before) .begun .few in omega arith
+
+not-loaded-requires-5 : tie.Need-not-loaded-requires-5
+not-loaded-requires-5 c κs = search needs
+
+returns-3 : tie.Need-returns-3
+returns-3 c =
+    let e = c .before .before .before .before .before .before .before .before .before .before in
+    c .not-loaded5 .ensures ∙ finish-count _ _ 1854 (e .if1 .left) (ready e) (found (c .before .before .before .before .before .before)) (c .before .before .before .before .number-at .ensures) (c .before .before .if3 .taken)
+
+add-not-loaded-5 : tie.Need-add-not-loaded-5
+add-not-loaded-5 c = let b = ready (c .before .before .before .before .before .before .before .before .before .before) .begun .few in omega arith
+
+not-loaded-requires-6 : tie.Need-not-loaded-requires-6
+not-loaded-requires-6 c κs = search needs
+
+returns-4 : tie.Need-returns-4
+returns-4 c =
+    let e = c .before .before .before .before .before .before .before .before .before .before .before in
+    c .not-loaded6 .ensures ∙ finish-sum _ _ 1854 (e .if1 .left) (ready e) (found (c .before .before .before .before .before .before .before)) (c .before .before .before .before .number-at2 .ensures) (c .before .before .if4 .taken)
+
+add-ended : tie.Need-add-ended
+add-ended c = let b = ready (c .before .before .before .before .before .before .before .before .before .before) .begun .few in omega arith
+
+ended-requires : tie.Need-ended-requires
+ended-requires c κs = let b = ready (c .before .before .before .before .before .before .before .before .before .before) .begun in (let f = b .few in omega arith, record { loads = b .loads })
+
+returns-5 : tie.Need-returns-5
+returns-5 c =
+    let e = c .before .before .before .before .before .before in
+    c .not-loaded3 .ensures ∙ finish-other _ _ 1854 (e .if1 .left) (ready e) (c .before .before .before .before .before .if2 .left) (sym (c .before .before .before .before .next-line .ensures) ∙ c .before .before .enum-told .given .1)
+
+returns-6 : tie.Need-returns-6
+returns-6 c =
+    let e = c .before .before .before .before .before .before .before in
+    c .not-loaded4 .ensures ∙ finish-stops _ _ 1854 (e .if1 .left) (ready e) _ (sym (c .before .before .before .before .before .next-line .ensures) ∙ c .before .before .before .number .given .1)
+
+returns-7 : tie.Need-returns-7
+returns-7 c =
+    let e = c .before .before .before .before .before .before .before .before .before .before .before in
+    c .ended .ensures ∙ finish-ended _ _ 1854 (e .if1 .left) (ready e) (found (c .before .before .before .before .before .before .before)) (c .before .before .before .before .before .number-at .ensures) (c .before .before .before .if3 .left) (c .before .before .before .before .number-at2 .ensures) (c .before .before .if4 .left)
+
+pub finish-spec : {M : Type 1} → statement M
+finish-spec =
+    tie.close
+    (tie.spec
+    not-loaded-requires
+    returns
+    add-not-loaded
+    not-loaded-requires-2
+    returns-2
+    next-line-requires
+    enum-told
+    add-not-loaded-2
+    not-loaded-requires-3
+    enum-known-number
+    add-not-loaded-3
+    not-loaded-requires-4
+    enum-known-next
+    number-at-requires
+    number-at-requires-2
+    add-not-loaded-4
+    not-loaded-requires-5
+    returns-3
+    add-not-loaded-5
+    not-loaded-requires-6
+    returns-4
+    add-ended
+    ended-requires
+    returns-5
+    returns-6
+    returns-7)

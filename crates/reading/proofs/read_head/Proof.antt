@@ -1,0 +1,105 @@
+-- `read_head` meets its contract.
+use mathlib.Core.Path.{_≡_, refl, sym, _∙_, subst, subst₂}
+use mathlib.Core.List.{[], _∷_}
+use native.Mathlib.Omega.{arith}
+use borrow.Author.Needs.{needs}
+use Rattle.policy.specs.declared.Record.{Record}
+use Rattle.policy.specs.Table.{head, appended}
+use Rattle.reading.specs.declared.Cursor.{Cursor}
+use Rattle.reading.specs.Body.{numbers}
+use Rattle.reading.specs.Stages.{Starts}
+use Rattle.reading.proofs.Lines.{Found, found-line, sum-most}
+use Rattle.reading.proofs.Bodies.{one-octet, numbers-are}
+use Rattle.reading.proofs.Going.{stage}
+use Rattle.reading.proofs.Ends.{head-stops, head-other, head-refused, head-taken}
+use Rattle.reading.proofs.read_head.Statement.{statement}
+use Rattle.reading.proofs.read_head.Tie as tie
+
+blank-requires : tie.Need-blank-requires
+blank-requires c κs = search needs
+
+next-line-requires : tie.Need-next-line-requires
+next-line-requires c κs = search needs
+
+enum-told : tie.Need-enum-told
+enum-told c = search needs
+
+stopped-requires : tie.Need-stopped-requires
+stopped-requires c κs = search needs
+
+enum-known-number : tie.Need-enum-known-number
+enum-known-number c = search needs
+
+stopped-requires-2 : tie.Need-stopped-requires-2
+stopped-requires-2 c κs = search needs
+
+enum-known-next : tie.Need-enum-known-next
+enum-known-next c = search needs
+
+octet-at-requires : tie.Need-octet-at-requires
+octet-at-requires c κs = search needs
+
+octet-at-requires-2 : tie.Need-octet-at-requires-2
+octet-at-requires-2 c κs = search needs
+
+head-refusal-requires : tie.Need-head-refusal-requires
+head-refusal-requires c κs = search needs
+
+stopped-requires-3 : tie.Need-stopped-requires-3
+stopped-requires-3 c κs = search needs
+
+-- the line that was found, and its numbers
+found : (n : tie.After-next) → Found (n .before .before .before .before .before .args .text .now) 0 0x01 5 (n .next .given .0 .0) (n .next .given .0 .1 .0)
+found n = found-line _ 0 0x01 5 (sym (n .before .before .next-line .ensures) ∙ n .next .given .1)
+
+taken : (q : tie.After-head-refusal) → numbers head (found (q .before .before .before .before) .os) ≡ q .before .before .octet-at .result ∷ q .before .octet-at2 .result ∷ []
+taken q =
+    let f = found (q .before .before .before .before) in
+    let t = q .before .before .before .before .before .before .before .before .before .args .text .now in
+    numbers-are t (f .os) 2 (f .framed) (f .sized) head refl
+    ∙ sym (λ i. (q .before .before .octet-at .ensures ∙ one-octet t 2) i ∷ (q .before .octet-at2 .ensures ∙ one-octet t 3) i ∷ [])
+
+returns : tie.Need-returns
+returns c =
+    let q = c .before .before in
+    subst (Starts _) (sym (c .stopped3 .ensures)) (head-refused _ (found (q .before .before .before .before)) _ _ (taken q) _ _ (q .head-refusal .ensures) (c .before .if1 .taken))
+
+past-requires : tie.Need-past-requires
+past-requires c κs =
+    let m = sum-most _ (found (c .before .before .before .before .before) .framed) in
+    (omega arith, omega arith, omega (arith, found (c .before .before .before .before .before) .summed))
+
+returns-2 : tie.Need-returns-2
+returns-2 c = subst (Starts _) (sym (c .stopped .ensures)) (head-other _ _ (c .before .before .before .before .before .before .pre) (sym (c .before .before .before .next-line .ensures) ∙ c .before .enum-told .given .1))
+
+returns-3 : tie.Need-returns-3
+returns-3 c = subst (Starts _) (sym (c .stopped2 .ensures)) (head-stops _ _ _ (sym (c .before .before .before .before .next-line .ensures) ∙ c .before .before .number .given .1))
+
+returns-4 : tie.Need-returns-4
+unfolding appended
+returns-4 c =
+    let e = c .before in
+    let q = e .before in
+    subst₂ (λ (at : Cursor) (r : Record). Starts (c .before .before .before .before .before .before .before .before .before .before .before .args .text .now) (stage at (appended head r (q .before .before .octet-at .result ∷ q .before .octet-at2 .result ∷ [])))) (sym (c .past .ensures)) (sym (c .before .before .before .before .before .before .before .before .before .blank .ensures))
+    (head-taken _ (found (q .before .before .before .before)) _ _ (taken q) (sym (e .if1 .left) ∙ q .head-refusal .ensures))
+
+pub read-head-spec : {M : Type 1} → statement M
+read-head-spec =
+    tie.close
+    (tie.spec
+    blank-requires
+    next-line-requires
+    enum-told
+    stopped-requires
+    enum-known-number
+    stopped-requires-2
+    enum-known-next
+    octet-at-requires
+    octet-at-requires-2
+    head-refusal-requires
+    stopped-requires-3
+    returns
+    past-requires
+    returns-2
+    returns-3
+    returns-4)

@@ -1,0 +1,167 @@
+-- `read_users` meets its contract.
+use Prim.Native.Nat.{_-_, _<_}
+use mathlib.Core.Path.{_≡_, refl, sym, _∙_, ap, subst, subst₂}
+use mathlib.Core.List.{[], _∷_}
+use native.Mathlib.Omega.{arith}
+use borrow.Author.Needs.{needs}
+use lib.ListN.{length, drop}
+use Rattle.policy.specs.Table.{user, count, room, appended}
+use Rattle.policy.specs.Rows.{leastKey, rowRefusal}
+use Rattle.policy.specs.RowLaws.{user-values}
+use Rattle.reading.specs.declared.Cursor.{Cursor}
+use Rattle.reading.specs.Body.{numbers}
+use Rattle.reading.specs.Stages.{Reads}
+use Rattle.reading.proofs.Lines.{proper-user, Found, found-line}
+use Rattle.reading.proofs.Bodies.{one-octet, numbers-are}
+use Rattle.reading.proofs.Going.{stage, Going, going-start, going-stops, going-done, going-refused, has-room, going-more, reads-refused, least-start, least-next, lines-fit, past-fits}
+use Rattle.reading.proofs.read_users.Statement.{statement}
+use Rattle.reading.proofs.read_users.Tie as tie
+
+abbrev Inv-loop : tie.InvT-loop
+Inv-loop text at₀ rules₀ least₀ at rules least = Going text user 1 (stage at₀ rules₀) at rules × (least ≡ leastKey user (count user rules) rules)
+
+abbrev μ-loop : tie.MeasureT-loop
+μ-loop text at₀ rules₀ least₀ at rules least = length text - at .place
+
+returns : tie.Need-returns Inv-loop μ-loop
+returns c = reads-refused _ _ _ _ (c .if1 .taken)
+
+loop-holds : tie.Need-loop-holds Inv-loop μ-loop
+loop-holds c = (going-start _ user 1 _ (c .before .if1 .left) (c .before .before .before .before .before .pre (c .before .if1 .left)), least-start user _ ((c .before .before .before .before .before .pre (c .before .if1 .left)) .empty user (omega arith)))
+
+next-line-requires : tie.Need-next-line-requires Inv-loop μ-loop
+next-line-requires c κs = search needs
+
+enum-told : tie.Need-enum-told Inv-loop μ-loop
+enum-told c = search needs
+
+returns-2 : tie.Need-returns-2 Inv-loop μ-loop
+returns-2 c =
+    let h = c .before .before .before in
+    going-done _ user proper-user 1 _ _ _ (h .loop .inv .0) 6 (sym (c .before .before .next-line .ensures) ∙ c .enum-told .given .1)
+
+enum-known-number : tie.Need-enum-known-number Inv-loop μ-loop
+enum-known-number c = search needs
+
+stopped-requires : tie.Need-stopped-requires Inv-loop μ-loop
+stopped-requires c κs = lines-fit _ user (c .before .before .before .before .loop .inv .0) (omega arith)
+
+returns-3 : tie.Need-returns-3 Inv-loop μ-loop
+returns-3 c =
+    let l = c .before .before .before .before in
+    subst (Reads _ user 1 _) (sym (c .stopped .ensures))
+    (going-stops _ user proper-user 1 _ _ _ (l .before .loop .inv .0) 6 _ refl (sym (l .next-line .ensures) ∙ c .before .before .number .given .1))
+
+enum-known-next : tie.Need-enum-known-next Inv-loop μ-loop
+enum-known-next c = search needs
+
+octet-at-requires : tie.Need-octet-at-requires Inv-loop μ-loop
+octet-at-requires c κs = search needs
+
+roles-at-requires : tie.Need-roles-at-requires Inv-loop μ-loop
+roles-at-requires c κs = search needs
+
+user-refusal-requires : tie.Need-user-refusal-requires Inv-loop μ-loop
+user-refusal-requires c κs = search needs
+
+stopped-requires-2 : tie.Need-stopped-requires-2 Inv-loop μ-loop
+stopped-requires-2 c κs = lines-fit _ user (c .before .before .before .before .before .before .before .before .loop .inv .0) (omega arith)
+
+-- the line that was found
+found : (n : tie.After-next Inv-loop μ-loop) → let h = n .before .before .before in
+    Found (h .before .before .before .before .before .before .args .text .now) (h .loop .at .place) 0x02 6 (n .next .given .0 .0) (n .next .given .0 .1 .0)
+found n = found-line _ _ 0x02 6 (sym (n .before .before .next-line .ensures) ∙ n .next .given .1)
+
+-- its numbers
+taken : (q : tie.After-user-refusal Inv-loop μ-loop) → let h = q .before .before .before .before .before .before .before in numbers user (found (q .before .before .before .before) .os) ≡ q .before .before .octet-at .result ∷ q .before .roles-at .result ∷ []
+taken q =
+    let h = q .before .before .before .before .before .before .before in
+    let f = found (q .before .before .before .before) in
+    numbers-are (drop (h .loop .at .place) (h .before .before .before .before .before .before .args .text .now)) (f .os) 3 (f .framed) (f .sized) user refl
+    ∙ sym (λ i. (q .before .before .octet-at .ensures ∙ one-octet (drop (h .loop .at .place) (h .before .before .before .before .before .before .args .text .now)) 2) i ∷ (q .before .roles-at .ensures) i ∷ [])
+
+-- and what they are refused with
+refusal : (q : tie.After-user-refusal Inv-loop μ-loop) → let h = q .before .before .before .before .before .before .before in q .user-refusal .result ≡ rowRefusal user (count user (h .loop .rules)) (h .loop .rules) (numbers user (found (q .before .before .before .before) .os))
+refusal q =
+    let h = q .before .before .before .before .before .before .before in
+    q .user-refusal .ensures ∙ user-values (h .loop .rules) (count user (h .loop .rules)) (q .before .before .octet-at .result) (q .before .roles-at .result) (h .loop .inv .1) ∙ ap (rowRefusal user (count user (h .loop .rules)) (h .loop .rules)) (sym (taken q))
+
+returns-4 : tie.Need-returns-4 Inv-loop μ-loop
+returns-4 c =
+    let q = c .before .before in
+    let h = q .before .before .before .before .before .before .before in
+    subst (Reads _ user 1 _) (sym (c .stopped2 .ensures))
+    (going-refused _ user proper-user 1 _ _ _ (h .loop .inv .0) refl (found (q .before .before .before .before)) _ (refusal q) (c .before .if2 .taken))
+
+-- there is room for it
+room-left : (e : tie.Else2 Inv-loop μ-loop) → count user (e .before .before .before .before .before .before .before .before .loop .rules) < room user
+room-left e = let h = e .before .before .before .before .before .before .before .before in has-room _ user proper-user 1 _ _ _ (h .loop .inv .0) refl (found (e .before .before .before .before .before)) (sym (refusal (e .before)) ∙ e .if2 .left)
+
+element-write-rules : tie.Need-element-write-rules Inv-loop μ-loop
+element-write-rules c = room-left c
+
+mul-rules : tie.Need-mul-rules Inv-loop μ-loop
+mul-rules c = omega (arith, room-left c)
+
+element-write-rules-2 : tie.Need-element-write-rules-2 Inv-loop μ-loop
+element-write-rules-2 c = room-left c
+
+add-rules : tie.Need-add-rules Inv-loop μ-loop
+add-rules c = omega (arith, room-left c)
+
+after-user-requires : tie.Need-after-user-requires Inv-loop μ-loop
+after-user-requires c κs = search needs
+
+past-requires : tie.Need-past-requires Inv-loop μ-loop
+past-requires c κs =
+    let e = c .before in
+    let h = e .before .before .before .before .before .before .before .before in
+    past-fits _ user (h .loop .inv .0) (found (e .before .before .before .before .before)) (omega (arith, room-left e))
+
+loop-less : tie.Need-loop-less Inv-loop μ-loop
+loop-less c =
+    let e = c .before .before in
+    let f = found (e .before .before .before .before .before) in
+    let p = ap (λ (x : Cursor). x .place) (c .past .ensures) in
+    omega (arith, f .within, f .follows, p)
+
+loop-again : tie.Need-loop-again Inv-loop μ-loop
+unfolding appended
+loop-again c =
+    let e = c .before .before in
+    let h = e .before .before .before .before .before .before .before .before in
+    let f = found (e .before .before .before .before .before) in
+    let v = ap (appended user (h .loop .rules)) (taken (e .before)) in (
+      subst₂ (Going _ user 1 _) (sym (c .past .ensures)) v
+          (going-more _ user proper-user 1 _ _ _ (h .loop .inv .0) refl f (sym (sym (refusal (e .before)) ∙ e .if2 .left))),
+      least-next user _ (omega arith) (omega arith) (taken (e .before)) (h .loop .inv .0 .begun .sized) (room-left e) (c .before .after-user .ensures),
+    )
+
+pub read-users-spec : {M : Type 1} → statement M
+read-users-spec =
+    tie.close
+    (tie.spec
+    Inv-loop
+    μ-loop
+    returns
+    loop-holds
+    next-line-requires
+    enum-told
+    returns-2
+    enum-known-number
+    stopped-requires
+    returns-3
+    enum-known-next
+    octet-at-requires
+    roles-at-requires
+    user-refusal-requires
+    stopped-requires-2
+    returns-4
+    element-write-rules
+    mul-rules
+    element-write-rules-2
+    add-rules
+    after-user-requires
+    past-requires
+    loop-less
+    loop-again)

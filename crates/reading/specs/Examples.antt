@@ -1,0 +1,76 @@
+-- Worked refusals of loading: number and line, one or more for each number 1 to 9, computed. Octets are hexadecimal.
+use Prim.Native.Nat.{ℕ}
+use mathlib.Core.Path.{_≡_, refl}
+use mathlib.Core.List.{List, [], _∷_, _++_}
+use lib.ListN.{replicate}
+use Rattle.octets.specs.Line.{digitValue, frame, lines, digits, textOf}
+use Rattle.closure.specs.Closure.{reaches, circular}
+use Rattle.policy.specs.Table.{blank, emptied, appended}
+use Rattle.policy.specs.Op.{height}
+use Rattle.policy.specs.Rows.{inRange, rowCauses, rowRefusal}
+use Rattle.reading.specs.Loading.{misplaced, endWrong, lineRefusal, afterLine, atEnd, read, load}
+
+-- what a proof by computation opens
+unfoldable pub computing : Unit {0}
+unfolding digitValue frame lines blank emptied appended height reaches circular inRange rowCauses rowRefusal misplaced endWrong lineRefusal afterLine atEnd read load
+computing = tt
+
+-- a text's number and line
+abbrev told : List ℕ → List ℕ
+told text = load text .number ∷ load text .line ∷ []
+
+-- a head with one object, and the smallest bundle's end
+abbrev head1 : List ℕ
+head1 = 0x02 ∷ 0x01 ∷ 0x01 ∷ 0x01 ∷ 0xFB ∷ []
+
+abbrev end1 : List ℕ
+end1 = 0x06 ∷ 0xFF ∷ 0x00 ∷ 0x01 ∷ 0x00 ∷ 0x00 ∷ 0x01 ∷ 0x00 ∷ 0xF9 ∷ []
+
+abbrev smallest : List ℕ
+smallest = textOf (head1 ∷ end1 ∷ [])
+
+-- a user line of object 0; a demarcation without privileges
+abbrev user0 : List ℕ
+user0 = 0x03 ∷ 0x02 ∷ 0x00 ∷ 0x00 ∷ 0x00 ∷ 0xFB ∷ []
+
+abbrev bare : List ℕ
+bare = 0x08 ∷ 0x05 ∷ 0x00 ∷ 0x00 ∷ 0x00 ∷ 0x00 ∷ 0x00 ∷ 0x00 ∷ 0x00 ∷ 0x00 ∷ 0xF3 ∷ []
+
+pub record Worked : Type 0 where
+  pub success : load smallest ≡ record { number = 0; line = 0; rules = blank }
+  pub empty-line : told (0x0A ∷ smallest) ≡ 1 ∷ 1 ∷ []
+  pub no-final-0A : told (textOf (head1 ∷ []) ++ digits end1) ≡ 1 ∷ 2 ∷ []
+  pub length-wrong : told (textOf (head1 ∷ (0x02 ∷ 0xFF ∷ 0x00 ∷ 0xFF ∷ []) ∷ [])) ≡ 2 ∷ 2 ∷ []
+  pub sum-wrong : told (textOf ((0x02 ∷ 0x01 ∷ 0x01 ∷ 0x01 ∷ 0xFC ∷ []) ∷ end1 ∷ [])) ≡ 3 ∷ 1 ∷ []
+  pub second-head : told (textOf (head1 ∷ head1 ∷ end1 ∷ [])) ≡ 4 ∷ 2 ∷ []
+  pub after-end : told (textOf (head1 ∷ end1 ∷ end1 ∷ [])) ≡ 4 ∷ 3 ∷ []
+  pub one-over : told (textOf (head1 ∷ replicate 21 bare)) ≡ 5 ∷ 22 ∷ []
+  pub no-object-1 : told (textOf (head1 ∷ (0x03 ∷ 0x02 ∷ 0x01 ∷ 0x00 ∷ 0x00 ∷ 0xFA ∷ []) ∷ end1 ∷ [])) ≡ 6 ∷ 2 ∷ []
+  pub not-rising : told (textOf (head1 ∷ user0 ∷ user0 ∷ end1 ∷ [])) ≡ 7 ∷ 3 ∷ []
+  pub empty-file : told [] ≡ 8 ∷ 1 ∷ []
+  pub end-wrong : told (textOf (head1 ∷ user0 ∷ end1 ∷ [])) ≡ 8 ∷ 3 ∷ []
+  pub circle :
+      told
+      (textOf
+      (head1 ∷ bare ∷ bare ∷ (0x02 ∷ 0x06 ∷ 0x00 ∷ 0x01 ∷ 0xF7 ∷ []) ∷ (0x02 ∷ 0x06 ∷ 0x01 ∷ 0x00 ∷ 0xF7 ∷ [])
+      ∷ (0x06 ∷ 0xFF ∷ 0x00 ∷ 0x05 ∷ 0x00 ∷ 0x00 ∷ 0x05 ∷ 0x00 ∷ 0xF1 ∷ []) ∷ []))
+      ≡ 9 ∷ 6 ∷ []
+
+pub worked : Worked
+unfolding computing
+worked =
+    record {
+      success = refl;
+      empty-line = refl;
+      no-final-0A = refl;
+      length-wrong = refl;
+      sum-wrong = refl;
+      second-head = refl;
+      after-end = refl;
+      one-over = refl;
+      no-object-1 = refl;
+      not-rising = refl;
+      empty-file = refl;
+      end-wrong = refl;
+      circle = refl;
+    }

@@ -1,0 +1,58 @@
+-- `put_line` meets its contract.
+use native.Mathlib.Omega.{arith}
+use borrow.Author.Needs.{needs}
+use Rattle.writing.proofs.Placed.{length-one, put-one, same-buffer}
+use Rattle.writing.proofs.put_line.Statement.{statement}
+use Rattle.writing.proofs.put_line.Tie as tie
+
+sub-write-line : tie.Need-sub-write-line
+sub-write-line c = omega (arith, c .before .before .pre .1 .room)
+
+part-write-line-start : tie.Need-part-write-line-start
+part-write-line-start c = omega (arith, c .before .before .pre .1 .room)
+
+part-write-line-end : tie.Need-part-write-line-end
+part-write-line-end c = omega arith
+
+write-line-requires : tie.Need-write-line-requires
+write-line-requires c κs = search needs
+
+line-total-requires : tie.Need-line-total-requires
+line-total-requires c κs = c .before .before .before .before .before .before .pre .0
+
+add-t9 : tie.Need-add-t9
+add-t9 c =
+    let h = c .before .before .before .before .before .before .before in
+    omega (arith, h .pre .1 .room, length-one _ _ _ _ (h .pre .0) (h .pre .1) (c .before .before .before .write-line .ensures .0))
+
+add-t12 : tie.Need-add-t12
+add-t12 c = omega (arith, c .before .before .before .before .before .before .before .before .pre .1 .few)
+
+add-t13 : tie.Need-add-t13
+add-t13 c = let h = c .before .before .before .before .before .before .before .before .before in omega (arith, h .pre .1 .few, h .pre .1 .fair, c .before .before .line-total .ensures .1)
+
+same-length : tie.Need-same-length
+same-length c =
+    let h = c .before .before .before .before .before .before .before .before .before in
+    same-buffer _ _ _ _ (h .pre .0) (h .pre .1) (c .before .before .before .before .before .write-line .ensures .1)
+
+returns : tie.Need-returns
+returns c =
+    let h = c .before .before .before .before .before .before .before .before .before in
+    let w = c .before .before .before .before .before .write-line in
+    put-one _ _ _ _ (h .pre .0) (h .pre .1) (w .ensures .0) (w .ensures .1) (c .before .before .line-total .ensures)
+
+pub put-line-spec : {M : Type 1} → statement M
+put-line-spec =
+    tie.close
+    (tie.spec
+    sub-write-line
+    part-write-line-start
+    part-write-line-end
+    write-line-requires
+    line-total-requires
+    add-t9
+    add-t12
+    add-t13
+    same-length
+    returns)

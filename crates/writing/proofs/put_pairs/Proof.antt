@@ -1,0 +1,62 @@
+-- `put_pairs` meets its contract.
+use Prim.Native.Nat.{_-_}
+use native.Mathlib.Omega.{arith}
+use borrow.Author.Needs.{needs}
+use Rattle.octets.specs.WritingLaws.{length-line}
+use Rattle.writing.specs.Drafts.{pairLine}
+use Rattle.writing.specs.DraftLaws.{Writing, writing-start, writing-fits, writing-more, writing-length, writing-end}
+use Rattle.writing.proofs.put_pairs.Statement.{statement}
+use Rattle.writing.proofs.put_pairs.Tie as tie
+
+abbrev Inv-loop : tie.InvT-loop
+Inv-loop buffer₀ kind count firsts seconds draft₀ i₀ buffer draft i = Writing buffer₀ draft₀ count (pairLine kind firsts seconds) buffer draft i
+
+abbrev μ-loop : tie.MeasureT-loop
+μ-loop buffer₀ kind count firsts seconds draft₀ i₀ buffer draft i = count - i
+
+loop-holds : tie.Need-loop-holds Inv-loop μ-loop
+loop-holds c = writing-start _ _ _ _
+
+shared-slice-read-t13 : tie.Need-shared-slice-read-t13 Inv-loop μ-loop
+shared-slice-read-t13 c = omega (arith, c .before .before .before .before .before .before .pre .0)
+
+shared-slice-read-t15 : tie.Need-shared-slice-read-t15 Inv-loop μ-loop
+shared-slice-read-t15 c = omega (arith, c .before .before .before .before .before .before .before .pre .1)
+
+slice-aggregate-put-line : tie.Need-slice-aggregate-put-line Inv-loop μ-loop
+slice-aggregate-put-line c = search needs
+
+put-line-requires : tie.Need-put-line-requires Inv-loop μ-loop
+put-line-requires c κs = (omega arith, writing-fits 11 (λ j. length-line _ _) (c .before .before .before .before .before .before .before .before .before .pre .2) (c .before .before .before .before .before .loop .inv) (omega arith))
+
+add-i : tie.Need-add-i Inv-loop μ-loop
+add-i c = search needs
+
+loop-less : tie.Need-loop-less Inv-loop μ-loop
+loop-less c = omega arith
+
+loop-again : tie.Need-loop-again Inv-loop μ-loop
+loop-again c = writing-more 11 (λ j. length-line _ _) (c .before .before .before .before .before .before .before .before .before .before .before .before .pre .2) (c .before .before .before .before .before .before .before .before .loop .inv) (omega arith) (c .before .before .put-line .ensures)
+
+same-length : tie.Need-same-length Inv-loop μ-loop
+same-length c = writing-length 11 (λ j. length-line _ _) (c .before .before .before .before .before .pre .2) (c .before .loop .inv)
+
+returns : tie.Need-returns Inv-loop μ-loop
+returns c = writing-end 11 (λ j. length-line _ _) (c .before .before .before .before .before .pre .2) (c .before .loop .inv) (omega arith)
+
+pub put-pairs-spec : {M : Type 1} → statement M
+put-pairs-spec =
+    tie.close
+    (tie.spec
+    Inv-loop
+    μ-loop
+    loop-holds
+    shared-slice-read-t13
+    shared-slice-read-t15
+    slice-aggregate-put-line
+    put-line-requires
+    add-i
+    loop-less
+    loop-again
+    same-length
+    returns)
