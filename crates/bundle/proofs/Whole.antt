@@ -14,7 +14,7 @@ use Rattle.writing.specs.Drafts.{Fits, Put}
 use Rattle.writing.specs.DraftLaws.{text-append, put-join, put-length}
 use Rattle.bundle.specs.Writing.{lineOctets, tableLines, ruleLines, withEnd, bundleOf}
 use Rattle.bundle.specs.Parts.{graphLines, groundLines, start, Room}
-use Rattle.bundle.specs.LengthLaws.{rest-count, end-size, few}
+use Rattle.bundle.specs.LengthLaws.{end-size, rules-few}
 
 rules-append : (ks js : List Kind) (r : Record) → ruleLines (ks ++ js) r ≡ ruleLines ks r ++ ruleLines js r
 rules-append [] js r = refl
@@ -37,19 +37,7 @@ module _ (r : Record) where
 
   module _ (loads : loadable r ≡ true) where
     counts : length (graphLines r) + length (groundLines r) ≤ 1854
-    counts =
-        let f = few r loads in
-        let n₁ = rest-count head (user ∷ edge ∷ formula ∷ demarcation ∷ []) r in
-        let n₂ = rest-count user (edge ∷ formula ∷ demarcation ∷ []) r in
-        let n₃ = rest-count edge (formula ∷ demarcation ∷ []) r in
-        let n₄ = rest-count formula (demarcation ∷ []) r in
-        let n₅ = rest-count demarcation [] r in
-        let n₆ = rest-count hierarchy (principal ∷ exclusion ∷ prerequisite ∷ method ∷ []) r in
-        let n₇ = rest-count principal (exclusion ∷ prerequisite ∷ method ∷ []) r in
-        let n₈ = rest-count exclusion (prerequisite ∷ method ∷ []) r in
-        let n₉ = rest-count prerequisite (method ∷ []) r in
-        let n₁₀ = rest-count method [] r in
-        omega (arith, f, n₁, n₂, n₃, n₄, n₅, n₆, n₇, n₈, n₉, n₁₀)
+    counts = let n = ap length parts ∙ length-append (graphLines r) (groundLines r) in omega (arith, rules-few r loads kinds)
 
     module _ {b : List ℕ} (fits : length (bundleOf r) ≤ length b) where
       pub room-start : Room b start (graphLines r)

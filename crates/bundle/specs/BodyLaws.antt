@@ -1,21 +1,22 @@
--- A written line's kind octet, body and numbers are those it was written with; the lines of a table, one by one.
-use Prim.Native.Nat.{ℕ, _-_, _<_}
-use mathlib.Core.Path.{_≡_, refl, _∙_, ap}
+-- A written line's kind octet, body and numbers are those it was written with, and a line is that of its numbers; the lines of a table, one by one.
+use Prim.Native.Nat.{ℕ, zero, suc, _-_, _<_}
+use mathlib.Core.Path.{_≡_, refl, sym, _∙_, ap}
 use mathlib.Core.List.{List, [], _∷_, _++_}
 use native.Mathlib.Omega.{arith}
-use lib.ListN.{length, take, drop, length-append}
-use lib.Seq.{take-at, drop-at}
+use lib.ListN.{length, take, drop, length-append, length-drop, take-append-drop}
+use lib.Seq.{take-at, drop-at, length-take-le}
 use Rattle.common.specs.Lists.{at, table}
 use Rattle.common.specs.ListLaws.{map-table}
 use Rattle.octets.specs.Line.{kindOctet, bodyOf, total, check, framed}
 use Rattle.octets.specs.Number.{number, inOctets}
-use Rattle.octets.specs.NumberLaws.{length-in-octets, octets-in-octets, number-in-octets}
-use Rattle.octets.specs.WritingLaws.{Octets, octets-append, length-framed}
+use Rattle.octets.specs.NumberLaws.{length-in-octets, octets-in-octets, number-in-octets, in-octets-number}
+use Rattle.octets.specs.WritingLaws.{Octets, octets-append, octets-take, length-framed, framed-again}
 use Rattle.policy.specs.declared.Record.{Record}
 use Rattle.policy.specs.Table.{Kind, head, user, edge, formula, demarcation, hierarchy, principal, exclusion, prerequisite, method, end, code, count, row}
 use Rattle.reading.specs.Body.{widths, values, numbers}
 use Rattle.bundle.specs.Writing.{body, lineOctets, tableLines}
 use Rattle.bundle.specs.Typed.{Fit, Typed}
+use Rattle.bundle.specs.FramedLaws.{Fine}
 
 -- ---- bodies
 
@@ -38,6 +39,21 @@ values-body (w ∷ ws) (x ∷ v) e f =
     let rest : values ws (drop w (inOctets w x ++ body ws v)) ≡ v = ap (values ws) (drop-at (inOctets w x) (body ws v) w size) ∙ values-body ws v (omega arith) (f .1) in
     λ j. first j ∷ rest j
 
+-- ---- octets as numbers, and the numbers as octets again
+
+octets-drop : (n : ℕ) (os : List ℕ) → Octets os → Octets (drop n os)
+octets-drop zero os p = p
+octets-drop (suc n) [] p = tt
+octets-drop (suc n) (o ∷ os) p = octets-drop n os (p .1)
+
+body-values : (ws b : List ℕ) → length b ≡ total ws → Octets b → body ws (values ws b) ≡ b
+body-values [] [] e p = refl
+body-values [] (o ∷ b) e p = absurd (omega arith)
+body-values (w ∷ ws) b e p =
+    let first = in-octets-number w (take w b) (length-take-le w b (omega arith)) (octets-take w b p) in
+    let rest = body-values ws (drop w b) (omega (arith, length-drop w b)) (octets-drop w b p) in
+    (λ i. first i ++ rest i) ∙ take-append-drop w b
+
 -- ---- lines
 
 body-framed : (k : ℕ) (b : List ℕ) → bodyOf (framed k b) ≡ b
@@ -59,6 +75,12 @@ module _ (k : Kind) (v : List ℕ) where
 
   pub line-numbers : length v ≡ length (widths k) → Fit (widths k) v → numbers k (lineOctets k v) ≡ v
   line-numbers e f = ap (values (widths k)) line-body ∙ values-body (widths k) v e f
+
+-- THE LAW: an accepted line of kind k, of that kind's size, is the line of its numbers
+pub line-again : (k : Kind) (os : List ℕ) → kindOctet os ≡ code k → length (bodyOf os) ≡ total (widths k) → Fine os → lineOctets k (numbers k os) ≡ os
+line-again k os e size p =
+    let b = body-values (widths k) (bodyOf os) size (octets-take (length os - 3) (drop 2 os) (octets-drop 2 os (p .small))) in
+    (λ i. framed (sym e i) (b i)) ∙ sym (framed-again os (p .small) (p .long) (p .adds))
 
 -- ---- the lines of a table
 

@@ -65,7 +65,18 @@ bundle-length r =
     let s₁₀ = rest-size method [] r in
     omega (arith, all, e, s₁, s₂, s₃, s₄, s₅, s₆, s₇, s₈, s₉, s₁₀)
 
--- a loadable record's counts
+-- ---- a loadable record
+
+-- how many lines of these kinds there can be
+abbrev pub rooms : List Kind → ℕ
+rooms [] = 0
+rooms (k ∷ ks) = room k + rooms ks
+
+pub rules-few : (r : Record) → loadable r ≡ true → (ks : List Kind) → length (ruleLines ks r) ≤ rooms ks
+rules-few r loads [] = omega arith
+rules-few r loads (k ∷ ks) = omega (arith, rest-count k ks r, table-few r k (loadable-table r loads k), rules-few r loads ks)
+
+-- its counts
 pub record Few (r : Record) : Type 0 where
   pub users : r .«user_count» ≤ 255
   pub edges : r .«edge_count» ≤ 512

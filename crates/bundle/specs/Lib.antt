@@ -4,7 +4,6 @@ pub mod Parts
 pub mod CutLaws
 pub mod BodyLaws
 pub mod LengthLaws
-pub mod AgainLaws
 pub mod TextLaws
 pub mod FramedLaws
 pub mod CheckLaws
@@ -17,3 +16,4 @@ pub mod GrownLaws
 pub mod WriteLoad
 pub mod LoadWrite
 pub mod Altered
+pub mod RoundTrips

@@ -21,7 +21,7 @@ use Rattle.bundle.specs.Writing.{lineOctets, ruleLines, withEnd, bundleO
 use Rattle.bundle.specs.FramedLaws.{Fine, Lines, lines-checked, octetLines, text-again}
 use Rattle.bundle.specs.FramedLaws.Lines.{none, more}
 use Rattle.bundle.specs.FramedLaws.Checked.{bad, good}
-use Rattle.bundle.specs.AgainLaws.{line-again}
+use Rattle.bundle.specs.BodyLaws.{line-again}
 use Rattle.bundle.specs.GrownLaws.{as-many, lines-more, lines-first}
 use Rattle.bundle.specs.TakenLaws.{read-taken, end-taken, taken-end, taken-head, load-framed}
 

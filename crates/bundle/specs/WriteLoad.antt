@@ -15,12 +15,13 @@ use Rattle.reading.specs.Loading.{atTop, read, load}
 use Rattle.bundle.specs.Writing.{tableLines, ruleLines, withEnd, bundleOf}
 use Rattle.bundle.specs.Typed.{Typed}
 use Rattle.bundle.specs.BodyLaws.{rowLine, table-lines}
+use Rattle.bundle.specs.LengthLaws.{rooms, rules-few}
 use Rattle.bundle.specs.TextLaws.{Lines, lines-append, lines-table, line-of, lines-text, lines-total}
 use Rattle.bundle.specs.PartLaws.{Whole, whole-all}
 use Rattle.bundle.specs.PassLaws.{Come, come-rules}
 use Rattle.bundle.specs.EndLaws.{endLine, read-end, at-end}
 
--- ---- the lines before the end line: how they look, and how many there can be
+-- ---- the lines before the end line
 
 rule-lines : (r : Record) (ks : List Kind) → Lines (ruleLines ks r)
 rule-lines r [] = tt
@@ -28,22 +29,6 @@ rule-lines r (k ∷ ks) = lines-append (tableLines k r) (ruleLines ks r) of-kind
   where
     of-kind : Lines (tableLines k r)
     of-kind = subst Lines (sym (table-lines k r)) (lines-table (count k r) (λ i. rowLine k i r) (λ i. line-of k (row k i r)))
-
-abbrev rooms : List Kind → ℕ
-rooms [] = 0
-rooms (k ∷ ks) = room k + rooms ks
-
-rules-few : (r : Record) → loadable r ≡ true → (ks : List Kind) → length (ruleLines ks r) ≤ rooms ks
-rules-few r loads [] = omega arith
-rules-few r loads (k ∷ ks) =
-    omega (
-      arith,
-      length-append (tableLines k r) (ruleLines ks r),
-      ap length (table-lines k r),
-      length-table (count k r) (λ i. rowLine k i r),
-      table-few r k (loadable-table r loads k),
-      rules-few r loads ks,
-    )
 
 -- ---- what these lines come to, with the end line after them
 

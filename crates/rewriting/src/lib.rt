@@ -1,0 +1,111 @@
+// What the program `rewrite` prints: one function from the bytes of its input to the bytes of its output.
+
+ghost use mathlib.Core.Path.{_≡_};
+ghost use Prim.Native.Nat.{_+_, _≤_, _<_};
+ghost use lib.ListN.{length, take};
+ghost use Rattle.rewriting.specs.Program.{refusedText, program, shownLength, shown};
+
+// A refusal's text: so many of the bytes.
+pub struct Refusal {
+    pub bytes: [u8; 16],
+    pub length: usize,
+}
+
+// `REFUSED`, the number and the line, each after a space, and 0A. The line number has as many digits as it needs.
+fn refusal_text(number: u8, line: usize) -> Refusal
+    requires { ⌜ (number < 10) × (line < 100000) ⌝ }
+    ensures { λ r. ⌜ (take (r .length) (r .bytes) ≡ refusedText number line) × (r .length ≤ length (r .bytes)) ⌝ }
+{
+    let n = 48 + number;
+    let d4 = (48 + line % 10) as u8;
+    if line < 10 {
+        return Refusal {
+            bytes: [82, 69, 70, 85, 83, 69, 68, 32, n, 32, d4, 10, 0, 0, 0, 0],
+            length: 12,
+        };
+    }
+    let tens = line / 10;
+    let d3 = (48 + tens % 10) as u8;
+    if tens < 10 {
+        return Refusal {
+            bytes: [82, 69, 70, 85, 83, 69, 68, 32, n, 32, d3, d4, 10, 0, 0, 0],
+            length: 13,
+        };
+    }
+    let hundreds = tens / 10;
+    let d2 = (48 + hundreds % 10) as u8;
+    if hundreds < 10 {
+        return Refusal {
+            bytes: [82, 69, 70, 85, 83, 69, 68, 32, n, 32, d2, d3, d4, 10, 0, 0],
+            length: 14,
+        };
+    }
+    let thousands = hundreds / 10;
+    let d1 = (48 + thousands % 10) as u8;
+    if thousands < 10 {
+        return Refusal {
+            bytes: [82, 69, 70, 85, 83, 69, 68, 32, n, 32, d1, d2, d3, d4, 10, 0],
+            length: 15,
+        };
+    }
+    let d0 = (48 + thousands / 10) as u8;
+    Refusal {
+        bytes: [
+            82,
+            69,
+            70,
+            85,
+            83,
+            69,
+            68,
+            32,
+            n,
+            32,
+            d0,
+            d1,
+            d2,
+            d3,
+            d4,
+            10,
+        ],
+        length: 16,
+    }
+}
+
+// Puts the first n bytes of a text at the start of the buffer, and returns n. Where they do not fit: 0, the buffer untouched.
+fn show(buffer: &mut [u8], text: &[u8], n: usize) -> usize
+    requires { ⌜ n ≤ length (now text) ⌝ }
+    ensures { λ r. ⌜ (r ≡ shownLength (take n (now (text .entry))) (now (buffer .entry))) × (now (buffer .exit) ≡ shown (take n (now (text .entry))) (now (buffer .entry))) ⌝ }
+{
+    if buffer.len() < n {
+        return 0;
+    }
+    let mut i = 0;
+    while i < n {
+        buffer[i] = text[i];
+        i += 1;
+    }
+    n
+}
+
+// The output for an input, at the start of the buffer, and its length. Where it does not fit: 0, the buffer untouched.
+pub fn rewritten(input: &[u8], output: &mut [u8]) -> usize
+    ensures { λ r. ⌜ (r ≡ shownLength (program (now (input .entry))) (now (output .entry))) × (now (output .exit) ≡ shown (program (now (input .entry))) (now (output .entry))) ⌝ }
+{
+    if 65536 < input.len() {
+        let long = [84, 79, 79, 32, 76, 79, 78, 71, 10];
+        return show(output, &long, 9);
+    }
+    let loaded = bundle::load(input);
+    if loaded.number != 0 {
+        let refused = refusal_text(loaded.number, loaded.line);
+        let bytes = refused.bytes;
+        return show(output, &bytes, refused.length);
+    }
+    let rules = loaded.rules;
+    let written = bundle::write(rules, output);
+    if written.number != 0 {
+        return 0;
+    }
+    written.length
+}
