@@ -14,6 +14,12 @@ ghost use Rattle.bundle.specs.Parts.{graphLines, groundLines, start, Roo
 use crate::Written;
 use policy::Record;
 use writing::Draft;
+use writing::put_demarcations;
+use writing::put_line;
+use writing::put_methods;
+use writing::put_pairs;
+use writing::put_triples;
+use writing::put_users;
 
 // The length of a loadable record's bundle: so many bytes for each line.
 fn bundle_length(rules: Record) -> usize
@@ -57,93 +63,62 @@ fn put_graph(rules: Record, buffer: &mut [u8]) -> Draft
         sum: 0,
     };
     let body = [1, rules.objects];
-    let head = writing::put_line(buffer, from, 0x01, &body);
-    let user_count = rules.user_count;
-    let users = writing::put_users(
-        buffer,
-        head,
-        user_count,
-        &rules.user_objects,
-        &rules.user_roles,
-    );
-    let edge_count = rules.edge_count;
-    let edges = writing::put_triples(
+    let head = put_line(buffer, from, 0x01, &body);
+    let n = rules.user_count;
+    let users = put_users(buffer, head, n, &rules.user_objects, &rules.user_roles);
+    let n = rules.edge_count;
+    let edges = put_triples(
         buffer,
         users,
         0x03,
-        edge_count,
+        n,
         &rules.edge_labels,
         &rules.edge_sources,
         &rules.edge_targets,
     );
-    let formula_count = rules.formula_count;
-    let formulas = writing::put_triples(
+    let n = rules.formula_count;
+    let formulas = put_triples(
         buffer,
         edges,
         0x04,
-        formula_count,
+        n,
         &rules.formula_ops,
         &rules.formula_lefts,
         &rules.formula_rights,
     );
-    let demarcation_count = rules.demarcation_count;
-    writing::put_demarcations(
-        buffer,
-        formulas,
-        demarcation_count,
-        &rules.demarcation_privileges,
-    )
+    let n = rules.demarcation_count;
+    put_demarcations(buffer, formulas, n, &rules.demarcation_privileges)
 }
 
-// Kinds 06 to 0A, after those before them.
+// Kinds 06 to 0A, after those before them. A draft is numbered by the kind that it comes after.
 fn put_grounds(rules: Record, buffer: &mut [u8], from: Draft) -> Draft
     requires { ⌜ (loadable rules ≡ true) × Typed rules × Room (now buffer) from (groundLines rules) ⌝ }
     ensures { λ r. ⌜ Put (now (buffer .entry)) (now (buffer .exit)) from r (groundLines rules) ⌝ }
 {
-    let hierarchy_count = rules.hierarchy_count;
-    let hierarchy = writing::put_pairs(
+    let n = rules.hierarchy_count;
+    let d6 = put_pairs(buffer, from, 0x06, n, &rules.inferiors, &rules.superiors);
+    let n = rules.principal_count;
+    let d7 = put_pairs(
         buffer,
-        from,
-        0x06,
-        hierarchy_count,
-        &rules.inferiors,
-        &rules.superiors,
-    );
-    let principal_count = rules.principal_count;
-    let principals = writing::put_pairs(
-        buffer,
-        hierarchy,
+        d6,
         0x07,
-        principal_count,
+        n,
         &rules.principal_formulas,
         &rules.principal_demarcations,
     );
-    let exclusion_count = rules.exclusion_count;
-    let exclusions = writing::put_pairs(
+    let n = rules.exclusion_count;
+    let d8 = put_pairs(
         buffer,
-        principals,
+        d7,
         0x08,
-        exclusion_count,
+        n,
         &rules.exclusion_lows,
         &rules.exclusion_highs,
     );
-    let prerequisite_count = rules.prerequisite_count;
-    let prerequisites = writing::put_pairs(
-        buffer,
-        exclusions,
-        0x09,
-        prerequisite_count,
-        &rules.prerequisites,
-        &rules.dependents,
-    );
-    let method_count = rules.method_count;
-    writing::put_methods(
-        buffer,
-        prerequisites,
-        method_count,
-        &rules.method_forms,
-        &rules.method_privileges,
-    )
+    let n = rules.prerequisite_count;
+    let d9 = put_pairs(buffer, d8, 0x09, n, &rules.prerequisites, &rules.dependents);
+    let n = rules.method_count;
+    put_methods(buffer, d9, n, &rules.method_forms, &rules.method_privileges)
 }
 
 // The body of the end line: the count of the lines, and the plain sum of their octets.
@@ -169,7 +144,7 @@ fn put_end(buffer: &mut [u8], from: Draft) -> Draft
     ensures { λ r. ⌜ Put (now (buffer .entry)) (now (buffer .exit)) from r (lineOctets end (from .lines ∷ from .sum ∷ []) ∷ []) ⌝ }
 {
     let body = end_body(from.lines, from.sum);
-    writing::put_line(buffer, from, 0xFF, &body)
+    put_line(buffer, from, 0xFF, &body)
 }
 
 // Writes a record's bundle at the start of the buffer. 19: no bundle loads to the record, and the length is 0.

@@ -17,6 +17,10 @@ decimals (suc d) n = cond (ltb n 10) ((48 + n) ∷ []) (decimals d (n / 10) ++ (
 abbrev pub refusedText : ℕ → ℕ → List ℕ
 refusedText n line = (82 ∷ 69 ∷ 70 ∷ 85 ∷ 83 ∷ 69 ∷ 68 ∷ 32 ∷ []) ++ (decimals 1 n ++ (32 ∷ (decimals 5 line ++ (10 ∷ []))))
 
+-- its first ten bytes, with the number's digit, and what follows them
+abbrev pub refusedStart : ℕ → List ℕ → List ℕ
+refusedStart digit rest = 82 ∷ 69 ∷ 70 ∷ 85 ∷ 83 ∷ 69 ∷ 68 ∷ 32 ∷ digit ∷ 32 ∷ rest
+
 -- `TOO LONG` and 0A
 abbrev pub tooLong : List ℕ
 tooLong = 84 ∷ 79 ∷ 79 ∷ 32 ∷ 76 ∷ 79 ∷ 78 ∷ 71 ∷ 10 ∷ []

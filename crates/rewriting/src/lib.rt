@@ -1,14 +1,25 @@
 // What the program `rewrite` prints: one function from the bytes of its input to the bytes of its output.
 
 ghost use mathlib.Core.Path.{_≡_};
+ghost use mathlib.Core.List.{[], _∷_};
 ghost use Prim.Native.Nat.{_+_, _≤_, _<_};
 ghost use lib.ListN.{length, take};
-ghost use Rattle.rewriting.specs.Program.{refusedText, program, shownLength, shown};
+ghost use Rattle.rewriting.specs.Program.{refusedStart, refusedText, program, shownLength, shown};
 
 // A refusal's text: so many of the bytes.
 pub struct Refusal {
     pub bytes: [u8; 16],
     pub length: usize,
+}
+
+// `REFUSED`, a space, a digit, a space and six bytes, of which the first so many of all count.
+fn refused(digit: u8, a: u8, b: u8, c: u8, d: u8, e: u8, f: u8, length: usize) -> Refusal
+    ensures { λ r. ⌜ (r .bytes ≡ refusedStart digit (a ∷ b ∷ c ∷ d ∷ e ∷ f ∷ [])) × (r .length ≡ length) ⌝ }
+{
+    Refusal {
+        bytes: [82, 69, 70, 85, 83, 69, 68, 32, digit, 32, a, b, c, d, e, f],
+        length: length,
+    }
 }
 
 // `REFUSED`, the number and the line, each after a space, and 0A. The line number has as many digits as it needs.
@@ -19,57 +30,25 @@ fn refusal_text(number: u8, line: usize) -> Refusal
     let n = 48 + number;
     let d4 = (48 + line % 10) as u8;
     if line < 10 {
-        return Refusal {
-            bytes: [82, 69, 70, 85, 83, 69, 68, 32, n, 32, d4, 10, 0, 0, 0, 0],
-            length: 12,
-        };
+        return refused(n, d4, 10, 0, 0, 0, 0, 12);
     }
     let tens = line / 10;
     let d3 = (48 + tens % 10) as u8;
     if tens < 10 {
-        return Refusal {
-            bytes: [82, 69, 70, 85, 83, 69, 68, 32, n, 32, d3, d4, 10, 0, 0, 0],
-            length: 13,
-        };
+        return refused(n, d3, d4, 10, 0, 0, 0, 13);
     }
     let hundreds = tens / 10;
     let d2 = (48 + hundreds % 10) as u8;
     if hundreds < 10 {
-        return Refusal {
-            bytes: [82, 69, 70, 85, 83, 69, 68, 32, n, 32, d2, d3, d4, 10, 0, 0],
-            length: 14,
-        };
+        return refused(n, d2, d3, d4, 10, 0, 0, 14);
     }
     let thousands = hundreds / 10;
     let d1 = (48 + thousands % 10) as u8;
     if thousands < 10 {
-        return Refusal {
-            bytes: [82, 69, 70, 85, 83, 69, 68, 32, n, 32, d1, d2, d3, d4, 10, 0],
-            length: 15,
-        };
+        return refused(n, d1, d2, d3, d4, 10, 0, 15);
     }
     let d0 = (48 + thousands / 10) as u8;
-    Refusal {
-        bytes: [
-            82,
-            69,
-            70,
-            85,
-            83,
-            69,
-            68,
-            32,
-            n,
-            32,
-            d0,
-            d1,
-            d2,
-            d3,
-            d4,
-            10,
-        ],
-        length: 16,
-    }
+    refused(n, d0, d1, d2, d3, d4, 10, 16)
 }
 
 // Puts the first n bytes of a text at the start of the buffer, and returns n. Where they do not fit: 0, the buffer untouched.
