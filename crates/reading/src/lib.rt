@@ -172,10 +172,7 @@ fn read_users(text: &[u8], from: Stage) -> Stage
         let place = at.place;
         match next_line(text, place, 0x02, 6) {
             Next::Other => {
-                return Stage {
-                    at: at,
-                    rules: rules,
-                };
+                return Stage { at, rules };
             }
             Next::Refused(number) => {
                 return stopped(at, number, rules);
@@ -214,10 +211,7 @@ fn read_edges(text: &[u8], from: Stage) -> Stage
         let place = at.place;
         match next_line(text, place, 0x03, 6) {
             Next::Other => {
-                return Stage {
-                    at: at,
-                    rules: rules,
-                };
+                return Stage { at, rules };
             }
             Next::Refused(number) => {
                 return stopped(at, number, rules);
@@ -258,10 +252,7 @@ fn read_formulas(text: &[u8], from: Stage) -> Stage
         let place = at.place;
         match next_line(text, place, 0x04, 6) {
             Next::Other => {
-                return Stage {
-                    at: at,
-                    rules: rules,
-                };
+                return Stage { at, rules };
             }
             Next::Refused(number) => {
                 return stopped(at, number, rules);
@@ -302,10 +293,7 @@ fn read_demarcations(text: &[u8], from: Stage) -> Stage
         let place = at.place;
         match next_line(text, place, 0x05, 11) {
             Next::Other => {
-                return Stage {
-                    at: at,
-                    rules: rules,
-                };
+                return Stage { at, rules };
             }
             Next::Refused(number) => {
                 return stopped(at, number, rules);
@@ -341,10 +329,7 @@ fn read_hierarchy(text: &[u8], from: Stage) -> Stage
         let place = at.place;
         match next_line(text, place, 0x06, 5) {
             Next::Other => {
-                return Stage {
-                    at: at,
-                    rules: rules,
-                };
+                return Stage { at, rules };
             }
             Next::Refused(number) => {
                 return stopped(at, number, rules);
@@ -382,30 +367,23 @@ fn read_principals(text: &[u8], from: Stage) -> Stage
         let place = at.place;
         match next_line(text, place, 0x07, 5) {
             Next::Other => {
-                return Stage {
-                    at: at,
-                    rules: rules,
-                };
+                return Stage { at, rules };
             }
             Next::Refused(number) => {
                 return stopped(at, number, rules);
             }
             Next::Body { next, total } => {
-                let formula = octets::octet_at(text, place, 2);
-                let demarcation = octets::octet_at(text, place, 3);
+                let f = octets::octet_at(text, place, 2);
+                let d = octets::octet_at(text, place, 3);
                 let n = rules.principal_count;
-                let number = rows::principal_refusal(
-                    n,
-                    rules.formula_count,
-                    rules.demarcation_count,
-                    formula,
-                    demarcation,
-                );
+                let formulas = rules.formula_count;
+                let demarcations = rules.demarcation_count;
+                let number = rows::principal_refusal(n, formulas, demarcations, f, d);
                 if number != 0 {
                     return stopped(at, number, rules);
                 }
-                rules.principal_formulas[n] = formula;
-                rules.principal_demarcations[n] = demarcation;
+                rules.principal_formulas[n] = f;
+                rules.principal_demarcations[n] = d;
                 rules.principal_count = n + 1;
                 let further = past(at, 0x07, next, total);
                 at = further;
@@ -429,10 +407,7 @@ fn read_exclusions(text: &[u8], from: Stage) -> Stage
         let place = at.place;
         match next_line(text, place, 0x08, 5) {
             Next::Other => {
-                return Stage {
-                    at: at,
-                    rules: rules,
-                };
+                return Stage { at, rules };
             }
             Next::Refused(number) => {
                 return stopped(at, number, rules);
@@ -471,10 +446,7 @@ fn read_prerequisites(text: &[u8], from: Stage) -> Stage
         let place = at.place;
         match next_line(text, place, 0x09, 5) {
             Next::Other => {
-                return Stage {
-                    at: at,
-                    rules: rules,
-                };
+                return Stage { at, rules };
             }
             Next::Refused(number) => {
                 return stopped(at, number, rules);
@@ -512,10 +484,7 @@ fn read_methods(text: &[u8], from: Stage) -> Stage
         let place = at.place;
         match next_line(text, place, 0x0A, 12) {
             Next::Other => {
-                return Stage {
-                    at: at,
-                    rules: rules,
-                };
+                return Stage { at, rules };
             }
             Next::Refused(number) => {
                 return stopped(at, number, rules);
