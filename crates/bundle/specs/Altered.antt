@@ -14,7 +14,8 @@ use Rattle.octets.specs.Line.{Framed, kindOctet}
 use Rattle.octets.specs.Damage.{OneAltered}
 use Rattle.octets.specs.DamageLaws.{never-well-framed}
 use Rattle.policy.specs.Table.{Kind, hierarchy, prerequisite, kindOf, count, room, rows}
-use Rattle.policy.specs.Rows.{limited, rising, key, leastKey, causes, inRange, rowCauses}
+use Rattle.rows.specs.Checks.{causes}
+use Rattle.policy.specs.Rows.{limited, rising, key, leastKey, inRange, rowCauses}
 use Rattle.reading.specs.declared.Loaded.{Loaded}
 use Rattle.reading.specs.Body.{numbers}
 use Rattle.reading.specs.Loading.{Reading, atTop, misplaced, endWrong, lineRefusal, afterLine, notLoaded, atEnd, read, load}

@@ -12,8 +12,10 @@ use Rattle.common.specs.ListLaws.{every-at, length-table, table-at}
 use Rattle.common.specs.Causes.{first}
 use Rattle.policy.specs.declared.Record.{Record}
 use Rattle.policy.specs.Table.{Kind, head, user, edge, formula, demarcation, hierarchy, principal, exclusion, prerequisite, method, end, code, count, room, row}
-use Rattle.policy.specs.Op.{opOf, heightOf, height, formulaInRange}
-use Rattle.policy.specs.Rows.{limited, rising, key, leastKey, causes, inRange, rowCauses, rowRefusal}
+use Rattle.rows.specs.Op.{opOf, heightOf, formulaInRange}
+use Rattle.policy.specs.Height.{height}
+use Rattle.rows.specs.Checks.{causes}
+use Rattle.policy.specs.Rows.{limited, rising, key, leastKey, inRange, rowCauses, rowRefusal}
 use Rattle.policy.specs.Loadable.{loadable}
 use Rattle.policy.specs.LoadableLaws.{loadable-table, table-rows}
 

@@ -13,7 +13,8 @@ use Rattle.policy.specs.declared.Record.{Record}
 use Rattle.policy.specs.declared.Memo.{Memo}
 use Rattle.policy.specs.declared.Edited.{Edited}
 use Rattle.policy.specs.Table.{edge, row, rows, emptied, column, withEdges, changed}
-use Rattle.policy.specs.Rows.{edgeInRange, edgeKey, key}
+use Rattle.rows.specs.Checks.{edgeInRange, edgeKey}
+use Rattle.policy.specs.Rows.{key}
 use Rattle.policy.specs.Loadable.{loadable}
 use Rattle.policy.specs.LoadableLaws.{loadable-table, loadable-objects, table-few}
 use Rattle.policy.specs.EdgeLaws.{loadable-rising, inserted-length}

@@ -14,7 +14,7 @@ use Rattle.common.specs.BoolLaws.{same-test}
 use Rattle.closure.specs.Closure.{On, Listed, pairsOf, Star, Below, Circle, circular}
 use Rattle.closure.specs.ClosureFact.{circle-circular}
 use Rattle.common.specs.Causes.{first}
-use Rattle.policy.specs.Rows.{causes, pairInRange, pairKey}
+use Rattle.rows.specs.Checks.{causes, pairInRange, pairKey}
 use Rattle.policy.specs.Loadable.{zeroFrom, leastPair, pairRefusal, pairsLoad}
 use Rattle.policy.specs.LoadableLaws.{pairs-few, pairs-named, pairs-proper}
 

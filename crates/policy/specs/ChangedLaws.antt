@@ -14,8 +14,10 @@ use Rattle.common.specs.Causes.{first}
 use Rattle.policy.specs.declared.Record.{Record}
 use Rattle.policy.specs.declared.Memo.{Memo}
 use Rattle.policy.specs.Table.{Kind, head, user, edge, formula, demarcation, hierarchy, principal, exclusion, prerequisite, method, end, kinds, count, columns, room, row, rows, column, changed}
-use Rattle.policy.specs.Op.{opOf, heightOf, height, formulaInRange}
-use Rattle.policy.specs.Rows.{causes, inRange, rowCauses, rowRefusal}
+use Rattle.rows.specs.Op.{opOf, heightOf, formulaInRange}
+use Rattle.policy.specs.Height.{height}
+use Rattle.rows.specs.Checks.{causes}
+use Rattle.policy.specs.Rows.{inRange, rowCauses, rowRefusal}
 use Rattle.policy.specs.Loadable.{zeroFrom, tableLoads, loadable}
 use Rattle.policy.specs.LoadableLaws.{loadable-table, noCircles}
 use Rattle.policy.specs.EdgeLaws.{Rising, none, more, rising-edges}

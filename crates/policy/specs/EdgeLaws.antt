@@ -14,7 +14,8 @@ use Rattle.common.specs.BoolLaws.{and-cases, and-both, or-none, or-right}
 use Rattle.common.specs.Causes.{first}
 use Rattle.policy.specs.declared.Record.{Record}
 use Rattle.policy.specs.Table.{edge, row, rows}
-use Rattle.policy.specs.Rows.{edgeInRange, edgeKey, key, leastKey, causes, inRange, rowCauses, rowRefusal}
+use Rattle.rows.specs.Checks.{edgeInRange, edgeKey, causes}
+use Rattle.policy.specs.Rows.{key, leastKey, inRange, rowCauses, rowRefusal}
 use Rattle.policy.specs.Loadable.{rowsLoad, loadable}
 use Rattle.policy.specs.LoadableLaws.{table-rows, loadable-table}
 use Rattle.policy.specs.Edits.{edgeIn, inserted, without}

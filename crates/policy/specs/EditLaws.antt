@@ -12,7 +12,7 @@ use Rattle.policy.specs.declared.Record.{Record}
 use Rattle.policy.specs.declared.Memo.{Memo}
 use Rattle.policy.specs.declared.Edited.{Edited}
 use Rattle.policy.specs.Table.{edge, row, rows, emptied, changed, withMemo}
-use Rattle.policy.specs.Rows.{edgeInRange}
+use Rattle.rows.specs.Checks.{edgeInRange}
 use Rattle.policy.specs.Loadable.{loadable}
 use Rattle.policy.specs.LoadableLaws.{loadable-table, loadable-objects, table-few}
 use Rattle.policy.specs.EdgeLaws.{Rising, loadable-rising, inserted-length, inserted-in, inserted-rising, without-length, without-inserted, without-rising}

@@ -9,7 +9,8 @@ use Rattle.common.specs.Refusals.{edgeOutOfRange, edgePresent, edgeAbsent, edge
 use Rattle.policy.specs.declared.Record.{Record}
 use Rattle.policy.specs.declared.Edited.{Edited}
 use Rattle.policy.specs.Table.{edge, rows, emptied, changed}
-use Rattle.policy.specs.Rows.{key, edgeInRange}
+use Rattle.rows.specs.Checks.{edgeInRange}
+use Rattle.policy.specs.Rows.{key}
 use Rattle.policy.specs.Loadable.{loadable}
 
 -- the edge is there

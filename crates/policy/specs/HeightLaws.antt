@@ -13,7 +13,8 @@ use borrow.Author.Tests.{eq-eqb, ne-eqb}
 use Rattle.common.specs.Lists.{at}
 use Rattle.policy.specs.declared.Record.{Record}
 use Rattle.policy.specs.Table.{formula, count, appended}
-use Rattle.policy.specs.Op.{Op, opOf, heightOf, height}
+use Rattle.rows.specs.Op.{Op, opOf, heightOf}
+use Rattle.policy.specs.Height.{height}
 use Rattle.policy.specs.TableLaws.{Sized, height-kept}
 
 -- the heights of the formulas below i

@@ -1,10 +1,9 @@
 pub mod Table
-pub mod Op
+pub mod Height
 pub mod Rows
 pub mod Loadable
 pub mod Edits
 pub mod Places
-pub mod OpLaws
 pub mod RowLaws
 pub mod LoadableLaws
 pub mod RoomLaws

@@ -9,7 +9,8 @@ use Rattle.common.specs.Causes.{first}
 use Rattle.closure.specs.Closure.{circular}
 use Rattle.policy.specs.declared.Record.{Record}
 use Rattle.policy.specs.Table.{Kind, hierarchy, prerequisite, kinds, count, columns, room, row, rows}
-use Rattle.policy.specs.Rows.{causes, pairInRange, pairKey, rowRefusal}
+use Rattle.rows.specs.Checks.{causes, pairInRange, pairKey}
+use Rattle.policy.specs.Rows.{rowRefusal}
 
 -- each line of a kind's table is one that loading takes at its place
 abbrev pub rowsLoad : Record → Kind → ℕ → Bool

@@ -16,7 +16,8 @@ use Rattle.closure.specs.Closure.{Listed, pairsOf, circular}
 use Rattle.closure.specs.ClosureFact.{listed-append}
 use Rattle.policy.specs.declared.Record.{Record}
 use Rattle.policy.specs.Table.{Kind, head, user, edge, formula, demarcation, hierarchy, principal, exclusion, prerequisite, method, end, kinds, count, columns, room, row, rows}
-use Rattle.policy.specs.Rows.{causes, pairInRange, pairKey, inRange, rowCauses, rowRefusal}
+use Rattle.rows.specs.Checks.{causes, pairInRange, pairKey}
+use Rattle.policy.specs.Rows.{inRange, rowCauses, rowRefusal}
 use Rattle.policy.specs.Loadable.{rowsLoad, zeroFrom, leastPair, pairRefusal, pairsLoad, tableLoads, loadable}
 
 module _ (r : Record) where

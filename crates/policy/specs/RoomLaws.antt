@@ -16,7 +16,8 @@ use Rattle.common.specs.Lists.{at}
 use Rattle.common.specs.ListLaws.{every-more}
 use Rattle.policy.specs.declared.Record.{Record}
 use Rattle.policy.specs.Table.{Kind, head, user, edge, formula, demarcation, hierarchy, principal, exclusion, prerequisite, method, end, code, count, room, row}
-use Rattle.policy.specs.Rows.{causes, pairInRange, pairKey, inRange, leastKey, rowCauses, rowRefusal}
+use Rattle.rows.specs.Checks.{causes, pairInRange, pairKey}
+use Rattle.policy.specs.Rows.{inRange, leastKey, rowCauses, rowRefusal}
 use Rattle.policy.specs.Loadable.{rowsLoad, tableLoads}
 use Rattle.policy.specs.LoadableLaws.{head-range, table-few, table-rows}
 use Rattle.policy.specs.RowLaws.{passed, row-limit}

@@ -9,8 +9,10 @@ use borrow.Author.Tests.{leb-false}
 use Rattle.common.specs.Causes.{first}
 use Rattle.policy.specs.declared.Record.{Record}
 use Rattle.policy.specs.Table.{Kind, user, edge, formula, demarcation, hierarchy, principal, exclusion, prerequisite, method, room}
-use Rattle.policy.specs.Op.{opOf, heightOf, height, formulaInRange}
-use Rattle.policy.specs.Rows.{limited, edgeInRange, pairInRange, edgeKey, pairKey, inRange, rising, key, leastKey, causes, rowCauses, rowRefusal}
+use Rattle.rows.specs.Op.{opOf, heightOf, formulaInRange}
+use Rattle.policy.specs.Height.{height}
+use Rattle.rows.specs.Checks.{edgeInRange, pairInRange, edgeKey, pairKey, causes}
+use Rattle.policy.specs.Rows.{limited, inRange, rising, key, leastKey, rowCauses, rowRefusal}
 
 module _ (r : Record) (i : ℕ) where
   pub user-values : (o w : ℕ) {least : ℕ} → least ≡ leastKey user i r → first (causes false (not (ltb o (r .objects))) (ltb o least)) ≡ rowRefusal user i r (o ∷ w ∷ [])

@@ -6,11 +6,12 @@ use mathlib.Core.Bool.{Bool, true, false, not, _&&_}
 use mathlib.Core.List.{List, [], _∷_}
 use lib.Dec.{ltb, leb, eqb}
 use Rattle.common.specs.Lists.{at}
-use Rattle.common.specs.Causes.{Cause, cause, first}
-use Rattle.common.specs.Refusals.{overLimit, outOfRange, notRising}
+use Rattle.common.specs.Causes.{Cause, first}
 use Rattle.policy.specs.declared.Record.{Record}
 use Rattle.policy.specs.Table.{Kind, head, user, edge, formula, demarcation, hierarchy, principal, exclusion, prerequisite, method, end, room, row}
-use Rattle.policy.specs.Op.{opOf, heightOf, height, formulaInRange}
+use Rattle.rows.specs.Op.{opOf, heightOf, formulaInRange}
+use Rattle.rows.specs.Checks.{edgeInRange, pairInRange, edgeKey, pairKey, causes}
+use Rattle.policy.specs.Height.{height}
 
 -- the kinds that are given a limit
 abbrev pub limited : Kind → Bool
@@ -25,14 +26,6 @@ limited exclusion = false
 limited prerequisite = false
 limited method = true
 limited end = false
-
--- an edge's label is 0 to 15, and its ends are below the object count n
-abbrev pub edgeInRange : ℕ → ℕ → ℕ → ℕ → Bool
-edgeInRange n l x y = leb l 15 && (ltb x n && ltb y n)
-
--- two different things below n
-abbrev pub pairInRange : ℕ → ℕ → ℕ → Bool
-pairInRange n a b = ltb a n && (ltb b n && not (eqb a b))
 
 -- the numbers are in range and name what there is
 unfoldable pub inRange : Kind → ℕ → Record → List ℕ → Bool
@@ -62,12 +55,6 @@ rising prerequisite = true
 rising method = false
 rising end = false
 
-abbrev pub edgeKey : ℕ → ℕ → ℕ → ℕ
-edgeKey l x y = l * 65536 + x * 256 + y
-
-abbrev pub pairKey : ℕ → ℕ → ℕ
-pairKey a b = a * 256 + b
-
 abbrev pub key : Kind → List ℕ → ℕ
 key head v = 0
 key user v = at v 0
@@ -85,10 +72,6 @@ key end v = 0
 abbrev pub leastKey : Kind → ℕ → Record → ℕ
 leastKey k zero r = 0
 leastKey k (suc i) r = key k (row k i r) + 1
-
--- 5: one line over the kind's limit. 6: a number out of range or naming nothing. 7: not above the line before it
-abbrev pub causes : Bool → Bool → Bool → List Cause
-causes over out falls = cause overLimit over ∷ cause outOfRange out ∷ cause notRising falls ∷ []
 
 unfoldable pub rowCauses : Kind → ℕ → Record → List ℕ → List Cause
 rowCauses k i r v = causes (limited k && leb (room k) i) (not (inRange k i r v)) (rising k && ltb (key k v) (leastKey k i r))

@@ -17,8 +17,10 @@ use Rattle.common.specs.BoolLaws.{and-cases, and-both}
 use Rattle.common.specs.Causes.{first}
 use Rattle.policy.specs.declared.Record.{Record}
 use Rattle.policy.specs.Table.{Kind, head, user, edge, formula, demarcation, hierarchy, principal, exclusion, prerequisite, method, end, code, kindOf, isKind, count, columns, room, row, blank, appended}
-use Rattle.policy.specs.Op.{opOf, heightOf, height, formulaInRange}
-use Rattle.policy.specs.Rows.{limited, rising, key, leastKey, causes, inRange, rowCauses, rowRefusal}
+use Rattle.rows.specs.Op.{opOf, heightOf, formulaInRange}
+use Rattle.policy.specs.Height.{height}
+use Rattle.rows.specs.Checks.{causes}
+use Rattle.policy.specs.Rows.{limited, rising, key, leastKey, inRange, rowCauses, rowRefusal}
 use Rattle.policy.specs.Loadable.{rowsLoad, zeroFrom, tableLoads}
 
 -- ---- kinds and their octets

@@ -5,7 +5,6 @@ ghost use Rattle.policy.specs.Table as table;
 
 pub mod edits;
 pub mod loadable;
-pub mod rows;
 
 // For one pair (object, requestor): which formulas have been evaluated, and what they came to.
 pub struct Memo {

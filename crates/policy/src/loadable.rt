@@ -8,7 +8,6 @@ ghost use Rattle.policy.specs.Table.{Kind, rows, user, edge, formula, de
 ghost use Rattle.policy.specs.Loadable.{zeroFrom, pairsLoad, tableLoads};
 ghost use Rattle.policy.specs.Loadable as spec;
 use crate::Record;
-use crate::rows;
 
 // The places of a column from count on are zero.
 fn zero_from(column: &[u8], count: usize) -> bool

@@ -19,7 +19,8 @@ use Rattle.octets.specs.Line.{Framed, refused, octets, kindOctet, bodyOf, restO
 use Rattle.octets.specs.LineLaws.{accepted, lines-none, lines-cons}
 use Rattle.policy.specs.declared.Record.{Record}
 use Rattle.policy.specs.Table.{Kind, head, user, edge, formula, demarcation, hierarchy, principal, exclusion, prerequisite, method, end, code, isKind, rows, blank, appended, kindOf}
-use Rattle.policy.specs.Rows.{causes, inRange, rowCauses, rowRefusal}
+use Rattle.rows.specs.Checks.{causes}
+use Rattle.policy.specs.Rows.{inRange, rowCauses, rowRefusal}
 use Rattle.policy.specs.TableLaws.{sized-blank, sized-appended, count-other}
 use Rattle.policy.specs.GrowthLaws.{blank-empty, tables-first}
 use Rattle.reading.specs.declared.Next.the-variants.{Other, Refused}

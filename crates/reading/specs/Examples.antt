@@ -6,7 +6,7 @@ use lib.ListN.{replicate}
 use Rattle.octets.specs.Line.{digitValue, frame, lines, digits, textOf}
 use Rattle.closure.specs.Closure.{reaches, circular}
 use Rattle.policy.specs.Table.{blank, emptied, appended}
-use Rattle.policy.specs.Op.{height}
+use Rattle.policy.specs.Height.{height}
 use Rattle.policy.specs.Rows.{inRange, rowCauses, rowRefusal}
 use Rattle.reading.specs.Loading.{misplaced, endWrong, lineRefusal, afterLine, atEnd, read, load}
 

@@ -9,7 +9,6 @@ ghost use Rattle.reading.specs.Loading as loading;
 ghost use Rattle.reading.specs.Stages.{nextOf, numberAt, refusedAt, movedPast, outcome, endedAt, CirclesReady, Ready, Starts, Reads};
 use octets::Line;
 use policy::Record;
-use policy::rows;
 
 // What loading answers: document 01's number, the line (0 for success), and the record, blank with every refusal.
 pub struct Loaded {

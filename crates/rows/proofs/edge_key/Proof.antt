@@ -1,0 +1,23 @@
+-- `edge_key` meets its contract.
+use mathlib.Core.Path.{refl}
+use borrow.Author.Needs.{needs}
+use Rattle.rows.proofs.edge_key.Statement.{statement}
+use Rattle.rows.proofs.edge_key.Tie as tie
+
+mul-result : tie.Need-mul-result
+mul-result c = search needs
+
+mul-result-2 : tie.Need-mul-result-2
+mul-result-2 c = search needs
+
+add-result : tie.Need-add-result
+add-result c = search needs
+
+add-result-2 : tie.Need-add-result-2
+add-result-2 c = search needs
+
+returns : tie.Need-returns
+returns c = refl
+
+pub edge-key-spec : {M : Type 1} → statement M
+edge-key-spec = tie.close (tie.spec mul-result mul-result-2 add-result add-result-2 returns)

@@ -1,0 +1,13 @@
+-- `method_refusal` meets its contract.
+use borrow.Author.Needs.{needs}
+use Rattle.rows.proofs.method_refusal.Statement.{statement}
+use Rattle.rows.proofs.method_refusal.Tie as tie
+
+first-cause-requires : tie.Need-first-cause-requires
+first-cause-requires c κs = search needs
+
+returns : tie.Need-returns
+returns c = search needs
+
+pub method-refusal-spec : {M : Type 1} → statement M
+method-refusal-spec = tie.close (tie.spec first-cause-requires returns)

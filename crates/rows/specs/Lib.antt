@@ -1,0 +1,3 @@
+pub mod Op
+pub mod Checks
+pub mod OpLaws
