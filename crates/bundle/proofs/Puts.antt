@@ -1,18 +1,17 @@
 -- Tables written one after another: the room for each, and its lines as its columns make them.
-use Prim.Native.Nat.{ℕ, _+_, _*_, _%_, _≤_, _<_}
-use mathlib.Core.Path.{_≡_, refl, sym, _∙_, ap, subst}
+use Prim.Native.Nat.{ℕ, _+_, _%_, _≤_, _<_}
+use mathlib.Core.Path.{_≡_, refl, sym, _∙_, subst}
 use mathlib.Core.Bool.{true}
-use mathlib.Core.List.{List, [], _∷_, _++_}
+use mathlib.Core.List.{List, [], _∷_}
 use native.Mathlib.Omega.{arith}
 use lib.ListN.{length}
 use Rattle.common.specs.Lists.{at, table}
 use Rattle.octets.specs.Line.{framed, textOf}
 use Rattle.octets.specs.Number.{inOctets}
 use Rattle.policy.specs.declared.Record.{Record}
-use Rattle.policy.specs.Table.{Kind, head, user, edge, formula, demarcation, hierarchy, principal, exclusion, prerequisite, method, count, columns, room, row}
+use Rattle.policy.specs.Table.{Kind, head, user, edge, formula, demarcation, hierarchy, principal, exclusion, prerequisite, method, count, room, row}
 use Rattle.policy.specs.Loadable.{loadable}
 use Rattle.policy.specs.LoadableLaws.{loadable-table, table-few}
-use Rattle.policy.specs.TableLaws.{Long}
 use Rattle.writing.specs.declared.Draft.{Draft}
 use Rattle.writing.specs.Drafts.{Fits, Put, pairLine, tripleLine, shortLine, wideLine, ledLine}
 use Rattle.writing.specs.DraftLaws.{put-join, put-length}

@@ -5,7 +5,7 @@ use mathlib.Core.List.{List, [], _∷_}
 use lib.ListN.{length}
 use Rattle.octets.specs.Line.{textOf}
 use Rattle.policy.specs.declared.Record.{Record}
-use Rattle.policy.specs.Table.{Kind, head, user, edge, formula, demarcation, hierarchy, principal, exclusion, prerequisite, method}
+use Rattle.policy.specs.Table.{head, user, edge, formula, demarcation, hierarchy, principal, exclusion, prerequisite, method}
 use Rattle.writing.specs.declared.Draft.{Draft}
 use Rattle.bundle.specs.declared.Written.{Written}
 use Rattle.bundle.specs.Writing.{ruleLines, written, bufferAfter}

@@ -1,5 +1,5 @@
 -- What the types of a record's fields say, of any record: each column is as long as its table has room, and each number fits its octets.
-use Prim.{Unit, tt}
+use Prim.{Unit}
 use Prim.Native.Nat.{ℕ, _<_, _^_}
 use mathlib.Core.List.{List, [], _∷_}
 use lib.ListN.{drop}

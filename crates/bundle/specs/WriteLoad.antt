@@ -1,16 +1,14 @@
 -- A loadable record is written as a text that loads to the same rules, with the memo emptied.
-use Prim.Native.Nat.{ℕ, _+_, _≤_}
+use Prim.Native.Nat.{ℕ, _≤_}
 use mathlib.Core.Path.{_≡_, sym, _∙_, ap, subst}
 use mathlib.Core.Bool.{true}
 use mathlib.Core.List.{List, [], _∷_, map, append-nil}
 use native.Mathlib.Omega.{arith}
-use lib.ListN.{length, length-append}
-use Rattle.common.specs.ListLaws.{length-table}
+use lib.ListN.{length}
 use Rattle.octets.specs.Line.{octets, totals, textOf}
 use Rattle.policy.specs.declared.Record.{Record}
-use Rattle.policy.specs.Table.{Kind, end, kinds, count, room, row, emptied, withMemo}
+use Rattle.policy.specs.Table.{Kind, end, kinds, count, row, emptied, withMemo}
 use Rattle.policy.specs.Loadable.{loadable}
-use Rattle.policy.specs.LoadableLaws.{loadable-table, table-few}
 use Rattle.reading.specs.Loading.{atTop, read, load}
 use Rattle.bundle.specs.Writing.{tableLines, ruleLines, withEnd, bundleOf}
 use Rattle.bundle.specs.Typed.{Typed}

@@ -1,4 +1,5 @@
 pub mod Lists
+pub mod Sets
 pub mod Causes
 pub mod Refusals
 pub mod ListLaws

@@ -1,9 +1,9 @@
 -- What each line of a kind's table is held to: the one check that loading and `loadable` share (refusals 5, 6 and 7).
 -- The numbers v are the line at place i of kind k's table. What they are held to stands in the tables before it and in the lines above it.
 -- Loading has i at the count, the first unused place; `loadable` goes through every i below the count.
-use Prim.Native.Nat.{ℕ, zero, suc, _+_, _*_}
+use Prim.Native.Nat.{ℕ, zero, suc, _+_}
 use mathlib.Core.Bool.{Bool, true, false, not, _&&_}
-use mathlib.Core.List.{List, [], _∷_}
+use mathlib.Core.List.{List}
 use lib.Dec.{ltb, leb, eqb}
 use Rattle.common.specs.Lists.{at}
 use Rattle.common.specs.Causes.{Cause, first}

@@ -8,7 +8,7 @@ use native.Mathlib.Omega.{arith}
 use native.Mathlib.Decide.{decLt}
 use lib.ListN.{length, take, drop, length-append}
 use lib.Seq.{length-take-le}
-use lib.Dec.{ltb, leb, eqb}
+use lib.Dec.{eqb}
 use borrow.Author.Tests.{lt-ltb, le-ltb, lt-leb, le-leb, eq-eqb, ne-eqb}
 use Rattle.octets.specs.Line.{Framed, refused, octets, kindOctet, starts, laterLines, lines}
 use Rattle.closure.specs.Closure.{circular}
@@ -20,7 +20,7 @@ use Rattle.reading.specs.Loading.{Reading, atTop, lineRefusal, afterLine, notLo
 use Rattle.bundle.specs.declared.Written.{Written}
 use Rattle.bundle.specs.Writing.{bundleOf, lengthNeeded, written, writeRefusal, bufferAfter}
 use Rattle.bundle.specs.Parts.{Writes}
-use Rattle.rewriting.specs.Program.{tooLong, refusedText, reported, program, shownLength, shown}
+use Rattle.rewriting.specs.Program.{tooLong, refusedText, program, shownLength, shown}
 
 -- ---- there are no more lines than bytes
 

@@ -6,7 +6,7 @@ use native.Mathlib.Omega.{arith}
 use native.Mathlib.Nat.{zero-mul, suc-mul, mul-le-mul-right}
 use native.Mathlib.Numerals.{add-one}
 use lib.ListN.{length, take, drop, length-append, take-append-drop, length-drop}
-use lib.Seq.{length-take-le, take-append-add, take-append-seam, drop-append-add, drop-append-seam, drop-drop}
+use lib.Seq.{length-take-le, take-append-add, take-append-seam, drop-append-add, drop-drop}
 use Rattle.common.specs.Lists.{table}
 use Rattle.common.specs.ListLaws.{length-table}
 use Rattle.octets.specs.Line.{framed, lineBytes, textOf, totals}

@@ -1,0 +1,4 @@
+pub mod Formula
+pub mod FormulaLaws
+pub mod Evaluation
+pub mod EvaluationLaws
