@@ -58,7 +58,8 @@ returns-2 : tie.Need-returns-2
 returns-2 c =
     let h = c .before .before .before .before .before .before .before .before .before in
     let e = h .load .ensures in
-    let n : load (text h) .number ≢ 0 = λ z. c .before .before .before .before .before .before .before .if2 .taken (ap (λ (l : Loaded). l .number) e ∙ z) in
+    let t : h .load .result .number ≢ 0 = c .before .before .before .before .before .before .before .if2 .taken in
+    let n : load (text h) .number ≢ 0 = λ z. t (ap (λ (l : Loaded). l .number) e ∙ z) in
     shown-same _ (c .before .before .before .before .before .before .refusal-text .ensures .0 ∙ (λ j. refusedText (e j .number) (e j .line)) ∙ prints-refusal (text h) (short h) n) (c .before .before .show2 .ensures)
 
 write-requires : tie.Need-write-requires
