@@ -2,8 +2,8 @@
 
 pub mod writer;
 
+pub use loading::load;
 pub use reading::Loaded;
-pub use reading::load;
 pub use writer::measure;
 pub use writer::write;
 

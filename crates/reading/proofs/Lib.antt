@@ -1,6 +1,6 @@
-mod Nexts
-mod Numbers
-mod Lines
-mod Going
-mod Bodies
-mod Ends
+pub mod Nexts
+pub mod Numbers
+pub mod Lines
+pub mod Going
+pub mod Bodies
+pub mod Heads

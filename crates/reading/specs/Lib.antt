@@ -2,5 +2,3 @@ pub mod Body
 pub mod Loading
 pub mod LoadingLaws
 pub mod Stages
-pub mod Examples
-pub mod Crown

@@ -11,7 +11,7 @@ use Rattle.reading.specs.Stages.{Starts}
 use Rattle.reading.proofs.Lines.{Found, found-line, sum-most}
 use Rattle.reading.proofs.Bodies.{one-octet, numbers-are}
 use Rattle.reading.proofs.Going.{stage}
-use Rattle.reading.proofs.Ends.{head-stops, head-other, head-refused, head-taken}
+use Rattle.reading.proofs.Heads.{head-stops, head-other, head-refused, head-taken}
 use Rattle.reading.proofs.read_head.Statement.{statement}
 use Rattle.reading.proofs.read_head.Tie as tie
 

@@ -8,14 +8,14 @@ use lib.ListN.{length, drop}
 use Rattle.policy.specs.Table.{hierarchy, count, room, appended}
 use Rattle.policy.specs.Rows.{leastKey, rowRefusal}
 use Rattle.policy.specs.RowLaws.{hierarchy-values}
 use Rattle.reading.specs.declared.Cursor.{Cursor}
 use Rattle.reading.specs.Body.{numbers}
 use Rattle.reading.specs.Stages.{Reads}
 use Rattle.reading.proofs.Lines.{proper-hierarchy, Found, found-line}
 use Rattle.reading.proofs.Bodies.{one-octet, numbers-are}
 use Rattle.reading.proofs.Going.{stage, Going, going-start, going-stops, going-done, going-refused, has-room, going-more, reads-refused, least-start, least-next, lines-fit, past-fits}
-use Rattle.reading.proofs.read_hierarchy.Statement.{statement}
-use Rattle.reading.proofs.read_hierarchy.Tie as tie
+use Rattle.loading.proofs.read_hierarchy.Statement.{statement}
+use Rattle.loading.proofs.read_hierarchy.Tie as tie
 
 abbrev Inv-loop : tie.InvT-loop
 Inv-loop text at₀ rules₀ least₀ at rules least = Going text hierarchy 852 (stage at₀ rules₀) at rules × (least ≡ leastKey hierarchy (count hierarchy rules) rules)

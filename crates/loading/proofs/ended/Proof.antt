@@ -3,9 +3,9 @@ use mathlib.Core.Path.{sym, _∙_}
 use native.Mathlib.Omega.{arith}
 use borrow.Author.Needs.{needs}
 use Rattle.octets.specs.AnswerLaws.{told-refused, told-octets}
-use Rattle.reading.proofs.Ends.{ended-refused, ended-more, ended-circle, ended-well}
-use Rattle.reading.proofs.ended.Statement.{statement}
-use Rattle.reading.proofs.ended.Tie as tie
+use Rattle.loading.proofs.Ends.{ended-refused, ended-more, ended-circle, ended-well}
+use Rattle.loading.proofs.ended.Statement.{statement}
+use Rattle.loading.proofs.ended.Tie as tie
 
 read-line-requires : tie.Need-read-line-requires
 read-line-requires c κs = search needs

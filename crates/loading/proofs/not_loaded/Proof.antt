@@ -2,8 +2,8 @@
 use mathlib.Core.Path.{ap}
 use borrow.Author.Needs.{needs}
 use Rattle.policy.specs.declared.Record.{Record}
-use Rattle.reading.proofs.not_loaded.Statement.{statement}
-use Rattle.reading.proofs.not_loaded.Tie as tie
+use Rattle.loading.proofs.not_loaded.Statement.{statement}
+use Rattle.loading.proofs.not_loaded.Tie as tie
 
 blank-requires : tie.Need-blank-requires
 blank-requires c κs = search needs

@@ -6,8 +6,8 @@ use lib.ListN.{replicate}
 use Rattle.octets.specs.Line.{textOf}
 use Rattle.policy.specs.declared.Record.{Record}
 use Rattle.policy.specs.Table.{emptied}
-use Rattle.reading.specs.Examples.{computing}
+use Rattle.loading.specs.Examples.{computing}
 use Rattle.reading.specs.Loading.{load}
 
 -- objects 0 crown, 1 Ana (role 0), 2 Ben (no role)
 abbrev pub crownLines : List (List ℕ)

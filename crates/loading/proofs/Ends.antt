@@ -1,4 +1,4 @@
--- The first line and the last: what loading makes of a head, of an end line, and of what follows it.
+-- The last line: what loading makes of an empty text, of an end line, and of what follows it.
 use Prim.Native.Nat.{ℕ, _+_, _≤_, _<_}
 use mathlib.Core.Path.{_≡_, refl, sym, _∙_, ap}
 use mathlib.Core.Logic.{_≢_}
@@ -7,31 +7,26 @@ use mathlib.Core.List.{List, [], _∷_}
 use native.Mathlib.Omega.{arith}
 use native.Mathlib.Decide.{ℕ-discrete}
 use lib.ListN.{length, drop, length-drop, drop-of-length-le}
-use lib.Dec.{leb, eqb}
+use lib.Dec.{eqb}
 use borrow.Author.Tests.{eq-eqb, ne-eqb}
 use Rattle.common.specs.Lists.{at}
 use Rattle.common.specs.BoolLaws.{and-false}
-use Rattle.common.specs.Causes.{first}
 use Rattle.common.specs.Refusals.{wrongKind, wrongEnd}
 use Rattle.common.specs.Refusals as refusals
 use Rattle.closure.specs.Closure.{circular}
-use Rattle.octets.specs.Line.{Framed, refused, octets, kindOctet, bodyOf, restOf, frame, lines}
+use Rattle.octets.specs.Line.{Framed, refused, octets, kindOctet, restOf, frame, lines}
 use Rattle.octets.specs.LineLaws.{accepted, lines-none, lines-cons}
 use Rattle.policy.specs.declared.Record.{Record}
-use Rattle.policy.specs.Table.{Kind, head, user, edge, formula, demarcation, hierarchy, principal, exclusion, prerequisite, method, end, code, isKind, rows, blank, appended, kindOf}
-use Rattle.rows.specs.Checks.{causes}
-use Rattle.policy.specs.Rows.{inRange, rowCauses, rowRefusal}
-use Rattle.policy.specs.TableLaws.{sized-blank, sized-appended, count-other}
-use Rattle.policy.specs.GrowthLaws.{blank-empty, tables-first}
+use Rattle.policy.specs.Table.{Kind, head, user, edge, formula, demarcation, hierarchy, principal, exclusion, prerequisite, method, end, code, rows, appended, kindOf}
+use Rattle.policy.specs.Rows.{inRange, rowCauses}
 use Rattle.reading.specs.declared.Next.the-variants.{Other, Refused}
-use Rattle.reading.specs.declared.Cursor.{Cursor}
 use Rattle.reading.specs.declared.Stage.{Stage}
 use Rattle.reading.specs.Body.{numbers}
 use Rattle.reading.specs.Loading.{Reading, misplaced, endWrong, lineRefusal, afterLine, notLoaded, atEnd, read, load}
-use Rattle.reading.specs.Stages.{nextOf, numberAt, reading, outcome, refusedAt, movedPast, afterEnd, endedAt, Ready, Starts}
-use Rattle.reading.proofs.Lines.{misplaced-other, misplaced-below, misplaced-after, misplaced-first, misplaced-head, well-placed, placed-first, refused-place, refused-row, read-not, read-on, Found, sum-most, refused-line, other-line, body-length, stops-reading}
+use Rattle.reading.specs.Stages.{nextOf, numberAt, reading, outcome, afterEnd, endedAt, Ready}
+use Rattle.reading.proofs.Lines.{misplaced-other, misplaced-after, well-placed, refused-place, read-not, read-on, Found, refused-line, other-line, body-length, stops-reading}
 use Rattle.reading.proofs.Bodies.{numbers-are}
-use Rattle.reading.proofs.Going.{stage, outcome-on, outcome-stopped}
+use Rattle.reading.proofs.Going.{outcome-on}
 
 -- ---- an empty text
 
@@ -39,77 +34,6 @@ pub load-empty : (text : List ℕ) → length text ≡ 0 → notLoaded wrongEnd 
 unfolding load read atEnd lines
 load-empty [] e = refl
 load-empty (b ∷ text) e = absurd (omega arith)
-
--- ---- the head
-
--- the cursor at the top
-abbrev pub top : Cursor
-top = record { number = 0; place = 0; lines = 0; last = 0; sum = 0 }
-
-from-top : (text : List ℕ) → load text ≡ read (reading (stage top blank)) (lines (drop 0 text))
-unfolding load
-from-top text = refl
-
-module _ (text : List ℕ) where
-  starts-not : (n : ℕ) (r : Record) → n ≢ 0 → read (reading (stage top blank)) (lines (drop 0 text)) ≡ notLoaded n 1 → Starts text (refusedAt top n r)
-  starts-not n r h q = record { same = outcome-stopped text top n r h ∙ sym (from-top text ∙ q); ready = λ z. absurd (h z) }
-
-  pub head-stops : (n : ℕ) (r : Record) → nextOf text 0 0x01 5 ≡ Refused n → Starts text (refusedAt top n r)
-  head-stops n r e =
-      let (h, q) = stops-reading (reading (stage top blank)) text 0 head 5 n refl (refused-line text 0 0x01 5 e) in
-      starts-not n r h q
-
-  pub head-other : (r : Record) → 0 < length text → nextOf text 0 0x01 5 ≡ Other → Starts text (refusedAt top wrongKind r)
-  head-other r l e =
-      let (os, f, h) = other-line text 0 0x01 5 l e in
-      let t = reading (stage top blank) in
-      let k = kindOf (kindOctet os) in
-      starts-not wrongKind r (λ z. omega arith) (read-not t text 0 l f k refl (refused-place t k os (misplaced-first t k os refl h)) (λ z. omega arith))
-
-  module _ {next sum : ℕ} (f : Found text 0 0x01 5 next sum) (version objects : ℕ) (v : numbers head (f .os) ≡ version ∷ objects ∷ []) where
-    sizes : length (bodyOf (f .os)) ≡ 2
-    sizes = let h = accepted (f .framed) .long in let u = body-length (f .os) (omega arith) in let z = f .sized in omega arith
-
-    head-row : lineRefusal (reading (stage top blank)) head (f .os) ≡ first (causes false (not (eqb version 1 && (leb 1 objects && leb objects 255))) false)
-    unfolding rowRefusal rowCauses inRange
-    head-row =
-        refused-row (reading (stage top blank)) head (f .os) (placed-first (reading (stage top blank)) (f .os) (f .ours) refl refl sizes) refl ∙ ap (rowRefusal head 1 blank) v
-
-    pub head-refused : (n : ℕ) (r : Record) → n ≡ first (causes false (not (eqb version 1 && (leb 1 objects && leb objects 255))) false) → n ≢ 0 → Starts text (refusedAt top n r)
-    head-refused n r e h =
-        starts-not n r h (read-not (reading (stage top blank)) text 0 (f .within) (f .framed) head (ap kindOf (f .ours)) (head-row ∙ sym e) h)
-
-    pub head-taken : 0 ≡ first (causes false (not (eqb version 1 && (leb 1 objects && leb objects 255))) false)
-        → Starts text (stage (movedPast top 0x01 next sum) (appended head blank (version ∷ objects ∷ [])))
-    unfolding afterLine rowRefusal rowCauses inRange
-    head-taken e =
-        record {
-          same = outcome-on text s refl ∙ sym (from-top text ∙ moved);
-          ready = λ z. record {
-            begun = record { some = omega arith; few = omega arith; sum = (let m = sum-most _ (f .framed) in let d = f .summed in omega arith); sized = sized-appended head w sized-blank; loads = tables-first w (passes ∙ sym e) };
-            last = omega arith;
-            empty = λ j l. count-other head j blank w (ne-eqb 1 (code j) (λ q. omega arith)) ∙ blank-empty j (omega arith);
-            others = λ os q l. below os (ℕ-discrete (kindOctet os) 1) l;
-          };
-        }
-      where
-        w : List ℕ
-        w = version ∷ objects ∷ []
-
-        s : Stage
-        s = stage (movedPast top 0x01 next sum) (appended head blank (version ∷ objects ∷ []))
-
-        passes : rowRefusal head 1 blank w ≡ first (causes false (not (eqb version 1 && (leb 1 objects && leb objects 255))) false)
-        passes = refl
-
-        moved : read (reading (stage top blank)) (lines (drop 0 text)) ≡ read (reading s) (lines (drop next text))
-        moved =
-            read-on (reading (stage top blank)) text 0 (f .within) (f .framed) head (ap kindOf (f .ours)) (head-row ∙ sym e)
-            ∙ (λ i. read (record { lines = 0 + 1; last = 1; sum = 0 + sym (f .summed) i; rules = appended head blank (v i) }) (lines (drop (sym (f .follows) i) text)))
-
-        below : (os : List ℕ) → Dec (kindOctet os ≡ 1) → kindOctet os < 2 → misplaced (reading s) (kindOf (kindOctet os)) os ≡ true
-        below os (yes q) l = misplaced-head (reading s) (kindOf (kindOctet os)) os (λ z. omega arith) (ap (λ (c : ℕ). isKind (kindOf c) head) q)
-        below os (no h) l = misplaced-below (reading s) (kindOf (kindOctet os)) os (omega arith)
 
 -- ---- the end line
 

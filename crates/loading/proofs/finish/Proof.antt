@@ -2,11 +2,11 @@
 use mathlib.Core.Path.{sym, _∙_}
 use native.Mathlib.Omega.{arith}
 use borrow.Author.Needs.{needs}
 use Rattle.reading.specs.Stages.{Ready}
 use Rattle.reading.proofs.Lines.{Found, found-line}
-use Rattle.reading.proofs.Ends.{finish-refused, finish-missing, finish-other, finish-stops, finish-count, finish-sum, finish-ended}
-use Rattle.reading.proofs.finish.Statement.{statement}
-use Rattle.reading.proofs.finish.Tie as tie
+use Rattle.loading.proofs.Ends.{finish-refused, finish-missing, finish-other, finish-stops, finish-count, finish-sum, finish-ended}
+use Rattle.loading.proofs.finish.Statement.{statement}
+use Rattle.loading.proofs.finish.Tie as tie
 
 not-loaded-requires : tie.Need-not-loaded-requires
 not-loaded-requires c κs = search needs

@@ -2,9 +2,9 @@
 use mathlib.Core.Path.{_∙_}
 use native.Mathlib.Omega.{arith}
 use borrow.Author.Needs.{needs}
-use Rattle.reading.proofs.Ends.{load-empty}
-use Rattle.reading.proofs.load.Statement.{statement}
-use Rattle.reading.proofs.load.Tie as tie
+use Rattle.loading.proofs.Ends.{load-empty}
+use Rattle.loading.proofs.load.Statement.{statement}
+use Rattle.loading.proofs.load.Tie as tie
 
 not-loaded-requires : tie.Need-not-loaded-requires
 not-loaded-requires c κs = search needs
