@@ -4,3 +4,5 @@ pub mod Causes
 pub mod Refusals
 pub mod ListLaws
 pub mod BoolLaws
+pub mod SetLaws
+pub mod QuantifierLaws

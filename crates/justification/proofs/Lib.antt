@@ -1,0 +1,6 @@
+mod Marking
+mod Excluding
+mod Named
+mod Asking
+mod Leading
+mod Verdicts

@@ -1,0 +1,11 @@
+-- The order of sets of principals, by quantifiers: what it is to be the least of those that pass.
+use Prim.Native.Nat.{ℕ, _^_, _<_}
+use mathlib.Core.Path.{_≡_}
+use mathlib.Core.Bool.{Bool, true}
+use mathlib.Core.Option.{Option, none, some}
+use Rattle.search.specs.Search.{Before}
+
+-- o is the least set of principals below n that passes, or there is none
+abbrev pub IsLeast : ℕ → (ℕ → Bool) → Option ℕ → Type 0
+IsLeast n p none = (y : ℕ) → y < 2 ^ n → p y ≡ true → ⊥
+IsLeast n p (some c) = (c < 2 ^ n) × (p c ≡ true) × ((y : ℕ) → y < 2 ^ n → p y ≡ true → Before c y)

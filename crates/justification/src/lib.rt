@@ -1,0 +1,323 @@
+// Grounds and guards: what each principal excludes, needs and gives; the least set that will do; liberal and strict.
+
+ghost use mathlib.Core.Path.{_≡_};
+ghost use mathlib.Core.Bool.{true, false, cond};
+ghost use mathlib.Core.Logic.{_↔_, _⊎_};
+ghost use mathlib.Core.List.{[]};
+ghost use Prim.Native.Nat.{ℕ, _^_, _≤_, _<_};
+ghost use lib.Bits.{bitOr};
+ghost use lib.ListN.{getD};
+ghost use Rattle.common.specs.Lists.{at};
+ghost use Rattle.common.specs.Sets.{member, In};
+ghost use Rattle.closure.specs.Closure.{pairsOf, reaches};
+ghost use Rattle.policy.specs.Table.{Kind};
+ghost use Rattle.policy.specs.Loadable.{tableLoads, pairsLoad};
+ghost use Rattle.formula.specs.Formula.{isUser};
+ghost use Rattle.formula.specs.Evaluation.{trueIn};
+ghost use Rattle.justification.specs.Justification.{demarcationHas, needs};
+ghost use Rattle.justification.specs.Justification as justification;
+ghost use Rattle.justification.specs.Masked.{excluded, Masked, found};
+ghost use Rattle.justification.specs.Predicates.{questionRefusal, isEnabled};
+ghost use Rattle.justification.specs.Predicates as predicates;
+ghost use Rattle.justification.specs.Parts.{Marks, OneMeets};
+use formula::Setting;
+use policy::Record;
+use search::Found;
+use search::Masks;
+
+// What liberal and strict answer: document 01's number, and yes or no (for a refusal, no).
+pub struct Verdict {
+    pub number: u8,
+    pub yes: bool,
+}
+
+// ---- sets
+
+// A thing's number as a place of a table.
+fn place(x: u8) -> usize
+    ensures { λ r. ⌜ r ≡ x ⌝ }
+{
+    x as usize
+}
+
+// The privileges that a method lists: 64 at most.
+fn listed(privileges: u64) -> u64
+    ensures { λ r. ⌜ (r ≡ privileges) × (r < 2 ^ 64) ⌝ }
+{
+    privileges
+}
+
+// The set s, with p added where p passes.
+fn marked(s: u32, p: usize, passes: bool) -> u32
+    requires { ⌜ p < 20 ⌝ }
+    ensures { λ r. ⌜ r ≡ cond passes (bitOr s (2 ^ p)) s ⌝ }
+{
+    if passes {
+        return search::add(s, p);
+    }
+    s
+}
+
+// ---- hierarchy and prerequisites, closed
+
+// The things that the relation c leads from to j.
+fn column_set(c: [[bool; 20]; 20], j: usize) -> u32
+    requires { ⌜ j < 20 ⌝ }
+    ensures { λ r. ⌜ Marks 20 (λ i. getD (getD c i []) j false) r ⌝ }
+{
+    let mut s: u32 = 0;
+    let mut i: usize = 0;
+    while i < 20 {
+        let more = marked(s, i, c[i][j]);
+        s = more;
+        i += 1;
+    }
+    s
+}
+
+// The same for each j.
+fn column_sets(c: [[bool; 20]; 20]) -> [u32; 20]
+    ensures { λ r. ⌜ ((j : ℕ) → j < 20 → Marks 20 (λ i. getD (getD c i []) j false) (at r j)) ⌝ }
+{
+    let mut sets = [0u32; 20];
+    let mut j: usize = 0;
+    while j < 20 {
+        let s = column_set(c, j);
+        sets[j] = s;
+        j += 1;
+    }
+    sets
+}
+
+// For each of so many things those that come to it by steps along the pairs, none or more.
+fn leading_to(things: usize, count: usize, firsts: [u8; 380], seconds: [u8; 380]) -> [u32; 20]
+    requires { ⌜ (pairsLoad things count firsts seconds ≡ true) × (things ≤ 20) ⌝ }
+    ensures { λ r. ⌜ ((j : ℕ) → j < things → Marks things (λ i. reaches (pairsOf count firsts seconds) i j) (at r j)) ⌝ }
+{
+    let relation = closure::related(firsts, seconds, count);
+    let closed = closure::closed(relation, things);
+    column_sets(closed)
+}
+
+// What each principal needs.
+fn needs_of(rules: Record) -> [u32; 20]
+    requires { ⌜ ((j : Kind) → tableLoads rules j ≡ true) ⌝ }
+    ensures { λ r. ⌜ ((q : ℕ) → q < rules .«principal_count» → Marks (rules .«principal_count») (λ p. needs rules q p) (at r q)) ⌝ }
+{
+    let needed = rules.prerequisites;
+    let needing = rules.dependents;
+    leading_to(
+        rules.principal_count,
+        rules.prerequisite_count,
+        needed,
+        needing,
+    )
+}
+
+// The privileges of each principal: those that its demarcation lists, or one below it.
+fn grants_of(rules: Record) -> [u64; 20]
+    requires { ⌜ ((j : Kind) → tableLoads rules j ≡ true) ⌝ }
+    ensures { λ r. ⌜ ((p k : ℕ) → p < rules .«principal_count» → (In k (at r p) ↔ (demarcationHas rules (at (rules .«principal_demarcations») p) k ≡ true))) ⌝ }
+{
+    let demarcations = rules.demarcation_count;
+    let inferiors = rules.inferiors;
+    let superiors = rules.superiors;
+    let below = leading_to(demarcations, rules.hierarchy_count, inferiors, superiors);
+    let lists = rules.demarcation_privileges;
+    let n = rules.principal_count;
+    let mut grants = [0u64; 20];
+    let mut p: usize = 0;
+    while p < n {
+        let d = place(rules.principal_demarcations[p]);
+        let g = search::gathered(demarcations, below[d], lists);
+        grants[p] = g;
+        p += 1;
+    }
+    grants
+}
+
+// ---- exclusions
+
+// The exclusions m, with the pair of a and b, each for the other.
+fn with_exclusion(m: [u32; 20], a: usize, b: usize) -> [u32; 20]
+    requires { ⌜ (a < 20) × (b < 20) ⌝ }
+    ensures { λ r. ⌜ ((x y : ℕ) → x < 20 → (In y (at r x) ↔ (In y (at m x) ⊎ (((a ≡ x) × (b ≡ y)) ⊎ ((b ≡ x) × (a ≡ y)))))) ⌝ }
+{
+    let mut sets = m;
+    let first = search::add(sets[a], b);
+    sets[a] = first;
+    let second = search::add(sets[b], a);
+    sets[b] = second;
+    sets
+}
+
+// What each principal excludes.
+fn excludes_of(rules: Record) -> [u32; 20]
+    requires { ⌜ ((j : Kind) → tableLoads rules j ≡ true) ⌝ }
+    ensures { λ r. ⌜ ((p q : ℕ) → p < rules .«principal_count» → (In q (at r p) ↔ excluded rules p q)) ⌝ }
+{
+    let n = rules.exclusion_count;
+    let mut sets = [0u32; 20];
+    let mut i: usize = 0;
+    while i < n {
+        let low = place(rules.exclusion_lows[i]);
+        let high = place(rules.exclusion_highs[i]);
+        let more = with_exclusion(sets, low, high);
+        sets = more;
+        i += 1;
+    }
+    sets
+}
+
+// ---- the masks of a record
+
+// What the search needs of a record, for a method and the principals that are allowed.
+pub fn masks_of(rules: Record, method: usize, allowed: u32) -> Masks
+    requires { ⌜ ((j : Kind) → tableLoads rules j ≡ true) × (method < rules .«method_count») ⌝ }
+    ensures { λ r. ⌜ Masked rules method allowed r ⌝ }
+{
+    let excludes = excludes_of(rules);
+    let needs = needs_of(rules);
+    let grants = grants_of(rules);
+    let wanted = listed(rules.method_privileges[method]);
+    Masks {
+        count: rules.principal_count,
+        allowed: allowed,
+        excludes: excludes,
+        needs: needs,
+        grants: grants,
+        every: rules.method_forms[method] != 0,
+        wanted: wanted,
+    }
+}
+
+// The least consistent set of allowed principals that meets the guard of a method.
+pub fn least(rules: Record, method: usize, allowed: u32) -> Found
+    requires { ⌜ ((j : Kind) → tableLoads rules j ≡ true) × (method < rules .«method_count») ⌝ }
+    ensures { λ r. ⌜ found r ≡ justification.least rules method (λ p. member p allowed) ⌝ }
+{
+    let masks = masks_of(rules, method, allowed);
+    search::least(masks)
+}
+
+// ---- questions
+
+// Whether there is a user line for s.
+fn is_user(rules: Record, s: u8) -> bool
+    requires { ⌜ rules .«user_count» ≤ 255 ⌝ }
+    ensures { λ r. ⌜ r ≡ isUser rules s ⌝ }
+{
+    let n = rules.user_count;
+    let mut found = false;
+    let mut i: usize = 0;
+    while i < n {
+        found = found | (rules.user_objects[i] == s);
+        i += 1;
+    }
+    found
+}
+
+// 19, 14, 15 or 16; 0 where the question may be put.
+pub fn question_refusal(rules: Record, method: u8, object: u8, requestor: u8) -> u8
+    ensures { λ r. ⌜ r ≡ questionRefusal rules method object requestor ⌝ }
+{
+    if !policy::loadable::loadable(rules) {
+        return common::REFUSED_RECORD;
+    }
+    if rules.method_count <= (method as usize) {
+        return common::REFUSED_METHOD;
+    }
+    if rules.objects <= object {
+        return common::REFUSED_OBJECT;
+    }
+    if !is_user(rules, requestor) {
+        return common::REFUSED_REQUESTOR;
+    }
+    common::ACCEPTED
+}
+
+// The set of those of the first n principals whose formula is true at the object.
+fn true_ones(q: Setting, n: usize, formulas: [u8; 20]) -> u32
+    requires { ⌜ (q .«edge_count» ≤ 512) × (n ≤ 20) ⌝ }
+    ensures { λ r. ⌜ Marks n (λ p. trueIn q 64 (at formulas p) (q .object)) r ⌝ }
+{
+    let mut s: u32 = 0;
+    let mut p: usize = 0;
+    while p < n {
+        let f = place(formulas[p]);
+        let more = marked(s, p, formula::true_at_object(q, f));
+        s = more;
+        p += 1;
+    }
+    s
+}
+
+// The enabled principals.
+pub fn enabled_of(rules: Record, object: u8, requestor: u8) -> u32
+    requires { ⌜ ((j : Kind) → tableLoads rules j ≡ true) ⌝ }
+    ensures { λ r. ⌜ Marks (rules .«principal_count») (isEnabled rules object requestor) r ⌝ }
+{
+    let q = formula::setting_of(rules, object, requestor);
+    let formulas = rules.principal_formulas;
+    true_ones(q, rules.principal_count, formulas)
+}
+
+// Whether all enabled principals together meet the guard, without constraints.
+pub fn liberal(rules: Record, method: u8, object: u8, requestor: u8) -> Verdict
+    ensures { λ r. ⌜ r ≡ predicates.liberal rules method object requestor ⌝ }
+{
+    let number = question_refusal(rules, method, object, requestor);
+    if number != 0 {
+        return Verdict {
+            number: number,
+            yes: false,
+        };
+    }
+    let m = place(method);
+    let enabled = enabled_of(rules, object, requestor);
+    let grants = grants_of(rules);
+    let given = search::gathered(rules.principal_count, enabled, grants);
+    let wanted = listed(rules.method_privileges[m]);
+    let yes = search::meets(rules.method_forms[m] != 0, wanted, given);
+    Verdict {
+        number: 0,
+        yes: yes,
+    }
+}
+
+// Whether one member of s below n alone meets the guard.
+fn one_meets(n: usize, s: u32, grants: [u64; 20], every: bool, wanted: u64) -> bool
+    requires { ⌜ n ≤ 20 ⌝ }
+    ensures { λ r. ⌜ (r ≡ true ↔ OneMeets n s grants every wanted) ⌝ }
+{
+    let mut found = false;
+    let mut p: usize = 0;
+    while p < n {
+        found = found | (search::has(s, p) & search::meets(every, wanted, grants[p]));
+        p += 1;
+    }
+    found
+}
+
+// Whether one enabled principal alone meets the guard, without constraints.
+pub fn strict(rules: Record, method: u8, object: u8, requestor: u8) -> Verdict
+    ensures { λ r. ⌜ r ≡ predicates.strict rules method object requestor ⌝ }
+{
+    let number = question_refusal(rules, method, object, requestor);
+    if number != 0 {
+        return Verdict {
+            number: number,
+            yes: false,
+        };
+    }
+    let m = place(method);
+    let enabled = enabled_of(rules, object, requestor);
+    let grants = grants_of(rules);
+    let wanted = listed(rules.method_privileges[m]);
+    let every = rules.method_forms[m] != 0;
+    let yes = one_meets(rules.principal_count, enabled, grants, every, wanted);
+    Verdict {
+        number: 0,
+        yes: yes,
+    }
+}

@@ -1,0 +1,190 @@
+-- `possible` and `by_giver` call one another and meet their contracts: at depth d the measures are 22d + 21 and 22d + (20 - p).
+use mathlib.Core.Path.{_≡_, ap, subst, _∙_}
+use mathlib.Core.Logic.{⊎-elim}
+use Prim.Native.Nat.{ℕ, _+_, _-_, _*_, _^_, _<_}
+use borrow.Author.Needs.{needs}
+use borrow.Author.Tests.{not-true}
+use lib.Bits.{bitOr}
+use Rattle.common.specs.Lists.{at}
+use Rattle.search.specs.Steps.{NoneHolds, NoneFrom}
+use Rattle.search.proofs.Decide.{true-not-false}
+use Rattle.search.proofs.Prunes.{none-wanted, no-giver, past-all, gives-none, neither-way}
+use borrow.Fn.Kinds.{In}
+use borrow.Fn.PlainCycle.{Measures, is, falls, and}
+use Rattle.search.proofs.by_giver.Reads as by-giver
+use Rattle.search.proofs.by_giver.Kinds as by-giver-kinds
+use Rattle.search.proofs.+by_giver+possible.Lts-by_giver as by-giver-lts
+use Rattle.search.proofs.possible.Reads as possible
+use Rattle.search.proofs.possible.Kinds as possible-kinds
+use Rattle.search.proofs.+by_giver+possible.Lts-possible as possible-lts
+use Rattle.search.proofs.add.Reads as add-reads
+use Rattle.search.proofs.asked.Reads as asked-reads
+use Rattle.search.proofs.fits.Reads as fits-reads
+use Rattle.search.proofs.granted_by.Reads as granted-by-reads
+use Rattle.search.proofs.meets.Reads as meets-reads
+use Rattle.search.proofs.with_needs.Reads as with-needs-reads
+use Rattle.search.proofs.+by_giver+possible.{statement}
+use Rattle.search.proofs.+by_giver+possible.Tie.{close}
+
+abbrev μ-by-giver : Measures 0 by-giver-kinds.ps ℕ
+μ-by-giver κs a = 22 * a .1 .1 .0 + (20 - a .1 .1 .1 .1 .1 .1 .0)
+
+abbrev μ-possible : Measures 0 possible-kinds.ps ℕ
+μ-possible κs a = 22 * a .1 .1 .0 + 21
+
+abbrev by-giver-at : ℕ → In 0 by-giver-kinds.ps
+by-giver-at t = and 0 by-giver-kinds.ps (is 0 by-giver-kinds.ps μ-by-giver t) by-giver.Pre
+
+abbrev by-giver-below : ℕ → In 0 by-giver-kinds.ps
+by-giver-below t =
+    and 0 by-giver-kinds.ps (falls 0 by-giver-kinds.ps _<_ μ-by-giver t) by-giver.Pre
+
+abbrev possible-at : ℕ → In 0 possible-kinds.ps
+possible-at t = and 0 possible-kinds.ps (is 0 possible-kinds.ps μ-possible t) possible.Pre
+
+abbrev possible-below : ℕ → In 0 possible-kinds.ps
+possible-below t =
+    and 0 possible-kinds.ps (falls 0 possible-kinds.ps _<_ μ-possible t) possible.Pre
+
+abbrev giver-claims : ℕ → by-giver-lts.Claims
+giver-claims t = (
+  meets-reads.Asked,
+  meets-reads.Learnt,
+  by-giver-below t,
+  by-giver.Post,
+  add-reads.Asked,
+  add-reads.Learnt,
+  with-needs-reads.Asked,
+  with-needs-reads.Learnt,
+  fits-reads.Asked,
+  fits-reads.Learnt,
+  granted-by-reads.Asked,
+  granted-by-reads.Learnt,
+  possible-below t,
+  possible.Post,
+)
+
+abbrev possible-claims : ℕ → possible-lts.Claims
+possible-claims t = (meets-reads.Asked, meets-reads.Learnt, asked-reads.Asked, asked-reads.Learnt, by-giver-below t, by-giver.Post)
+
+by-giver-returns : (t : ℕ) → by-giver-lts.Need-returns (giver-claims t) (by-giver-at t) by-giver.Post
+by-giver-returns t c = λ e. past-all (c .if1 .taken)
+
+by-giver-mul-meets : (t : ℕ) → by-giver-lts.Need-mul-meets (giver-claims t) (by-giver-at t) by-giver.Post
+by-giver-mul-meets t c = search needs
+
+by-giver-element-copy-out-meets : (t : ℕ) → by-giver-lts.Need-element-copy-out-meets (giver-claims t) (by-giver-at t) by-giver.Post
+by-giver-element-copy-out-meets t c = search needs
+
+by-giver-meets-requires : (t : ℕ) → by-giver-lts.Need-meets-requires (giver-claims t) (by-giver-at t) by-giver.Post
+by-giver-meets-requires t c κs = search needs
+
+by-giver-add-by-giver : (t : ℕ) → by-giver-lts.Need-add-by-giver (giver-claims t) (by-giver-at t) by-giver.Post
+by-giver-add-by-giver t c = search needs
+
+by-giver-by-giver-requires : (t : ℕ) → by-giver-lts.Need-by-giver-requires (giver-claims t) (by-giver-at t) by-giver.Post
+by-giver-by-giver-requires t c κs = search needs
+
+by-giver-returns-2 : (t : ℕ) → by-giver-lts.Need-returns-2 (giver-claims t) (by-giver-at t) by-giver.Post
+by-giver-returns-2 t c =
+    let met = c .before .before in
+    let a = met .before .before .before .args in
+    λ e. gives-none (a .p) (met .meets .ensures .no (not-true _ (c .before .if2 .taken))) (c .by-giver .ensures e)
+
+by-giver-add-requires : (t : ℕ) → by-giver-lts.Need-add-requires (giver-claims t) (by-giver-at t) by-giver.Post
+by-giver-add-requires t c κs = search needs
+
+by-giver-with-needs-requires : (t : ℕ) → by-giver-lts.Need-with-needs-requires (giver-claims t) (by-giver-at t) by-giver.Post
+by-giver-with-needs-requires t c κs = search needs
+
+by-giver-fits-requires : (t : ℕ) → by-giver-lts.Need-fits-requires (giver-claims t) (by-giver-at t) by-giver.Post
+by-giver-fits-requires t c κs = search needs
+
+by-giver-granted-by-requires : (t : ℕ) → by-giver-lts.Need-granted-by-requires (giver-claims t) (by-giver-at t) by-giver.Post
+by-giver-granted-by-requires t c κs = search needs
+
+by-giver-sub-possible : (t : ℕ) → by-giver-lts.Need-sub-possible (giver-claims t) (by-giver-at t) by-giver.Post
+by-giver-sub-possible t c = search needs
+
+by-giver-possible-requires : (t : ℕ) → by-giver-lts.Need-possible-requires (giver-claims t) (by-giver-at t) by-giver.Post
+by-giver-possible-requires t c κs = search needs
+
+by-giver-returns-3 : (t : ℕ) → by-giver-lts.Need-returns-3 (giver-claims t) (by-giver-at t) by-giver.Post
+by-giver-returns-3 t c = λ e. absurd (true-not-false e)
+
+by-giver-add-requires-2 : (t : ℕ) → by-giver-lts.Need-add-requires-2 (giver-claims t) (by-giver-at t) by-giver.Post
+by-giver-add-requires-2 t c κs = search needs
+
+by-giver-add-by-giver-2 : (t : ℕ) → by-giver-lts.Need-add-by-giver-2 (giver-claims t) (by-giver-at t) by-giver.Post
+by-giver-add-by-giver-2 t c = search needs
+
+by-giver-by-giver-requires-2 : (t : ℕ) → by-giver-lts.Need-by-giver-requires-2 (giver-claims t) (by-giver-at t) by-giver.Post
+by-giver-by-giver-requires-2 t c κs = search needs
+
+by-giver-returns-4 : (t : ℕ) → by-giver-lts.Need-returns-4 (giver-claims t) (by-giver-at t) by-giver.Post
+by-giver-returns-4 t c =
+    let joined = c .before .before in
+    let tested = joined .before in
+    let grown = tested .before in
+    let added = grown .before in
+    let a = added .before .before .before .before .before .args in
+    let is : grown .with-needs .result ≡ bitOr (bitOr (a .chosen) (2 ^ (a .p))) (at (a .t1 .needs) (a .p)) =
+    grown .with-needs .ensures ∙ ap (λ (z : ℕ). bitOr z (at (a .t1 .needs) (a .p))) (added .add .ensures) in
+    λ e. neither-way (a .p)
+    (subst (λ (z : ℕ). NoneHolds (a .t1) (a .limit) z (a .barred)) is
+    (⊎-elim (λ w. w .2 .ensures (w .3 .left)) (λ w. tested .fits2 .ensures (w .left)) (joined .if3 .came)))
+    (subst (λ (z : ℕ). NoneFrom (a .t1) (a .limit) (a .chosen) z (a .x) (a .p + 1)) (c .before .add2 .ensures) (c .by-giver2 .ensures e))
+
+possible-meets-requires : (t : ℕ) → possible-lts.Need-meets-requires (possible-claims t) (possible-at t) possible.Post
+possible-meets-requires t c κs = search needs
+
+possible-returns : (t : ℕ) → possible-lts.Need-returns (possible-claims t) (possible-at t) possible.Post
+possible-returns t c = λ e. absurd (true-not-false e)
+
+possible-returns-2 : (t : ℕ) → possible-lts.Need-returns-2 (possible-claims t) (possible-at t) possible.Post
+possible-returns-2 t c = λ e. none-wanted (c .if2 .taken) e
+
+possible-returns-3 : (t : ℕ) → possible-lts.Need-returns-3 (possible-claims t) (possible-at t) possible.Post
+possible-returns-3 t c = λ e. absurd (true-not-false e)
+
+possible-asked-requires : (t : ℕ) → possible-lts.Need-asked-requires (possible-claims t) (possible-at t) possible.Post
+possible-asked-requires t c κs = c .before .if2 .left
+
+possible-by-giver-requires : (t : ℕ) → possible-lts.Need-by-giver-requires (possible-claims t) (possible-at t) possible.Post
+possible-by-giver-requires t c κs = search needs
+
+possible-returns-4 : (t : ℕ) → possible-lts.Need-returns-4 (possible-claims t) (possible-at t) possible.Post
+possible-returns-4 t c = λ e. no-giver (c .before .asked .ensures) (c .by-giver .ensures e)
+
+pub +by-giver+possible-spec : {M : Type 1} → statement M
++by-giver+possible-spec = close μ-by-giver μ-possible (λ t. by-giver-lts.spec (giver-claims t)
+    (by-giver-at t)
+    by-giver.Post
+    (by-giver-returns t)
+    (by-giver-mul-meets t)
+    (by-giver-element-copy-out-meets t)
+    (by-giver-meets-requires t)
+    (by-giver-add-by-giver t)
+    (by-giver-by-giver-requires t)
+    (by-giver-returns-2 t)
+    (by-giver-add-requires t)
+    (by-giver-with-needs-requires t)
+    (by-giver-fits-requires t)
+    (by-giver-granted-by-requires t)
+    (by-giver-sub-possible t)
+    (by-giver-possible-requires t)
+    (by-giver-returns-3 t)
+    (by-giver-add-requires-2 t)
+    (by-giver-add-by-giver-2 t)
+    (by-giver-by-giver-requires-2 t)
+    (by-giver-returns-4 t))
+    λ t. possible-lts.spec (possible-claims t)
+    (possible-at t)
+    possible.Post
+    (possible-meets-requires t)
+    (possible-returns t)
+    (possible-returns-2 t)
+    (possible-returns-3 t)
+    (possible-asked-requires t)
+    (possible-by-giver-requires t)
+    (possible-returns-4 t)

@@ -1,0 +1,173 @@
+-- The search's steps: from what is found below m to what is found below n = m + 1.
+use mathlib.Core.Path.{_≡_, refl, sym, ap, subst, _∙_}
+use mathlib.Core.Logic.{_⊎_, inl, inr, ⊎-elim}
+use Prim.Native.Nat.{ℕ, suc, _+_, _-_, _*_, _/_, _^_, _≤_, _<_}
+use native.Mathlib.Nat.{pow-suc, mul-assoc, mul-comm, add-mul, one-mul, eq-or-lt-of-le}
+use native.Mathlib.Omega.{arith}
+use lib.Arith.{bin-ind}
+use lib.Pow.{pow-pos, pow-mono}
+use lib.Bits.{bitOr}
+use lib.Count.{ones, onesIn, ones-step, ones-cat, ones-le}
+use Rattle.search.specs.declared.Masks.{Masks}
+use Rattle.common.specs.Sets.{Apart}
+use Rattle.search.specs.Search.{Candidate, Least}
+use Rattle.search.specs.declared.Found.{Found}
+use Rattle.search.specs.declared.Found.the-variants.{Set, Nothing}
+use Rattle.search.specs.Steps.{State, First, None, LeastIn}
+use Rattle.common.specs.SetLaws.{le-or-lt, none-in-zero, or-in, pow-in, in-lt, in-ge, sum-in}
+
+pub ones-zero : ones 0 ≡ 0
+unfolding ones onesIn
+ones-zero = refl
+
+ones-one : ones 1 ≡ 1
+unfolding ones onesIn
+ones-one = refl
+
+no-ones : (y : ℕ) → ones y ≡ 0 → y ≡ 0
+no-ones = bin-ind (λ (n : ℕ). ones n ≡ 0 → n ≡ 0) (λ e. refl) (λ n ih e.
+    let s = ones-step n in
+    let h : n / 2 ≡ 0 = ih (omega arith) in
+    omega arith)
+
+ones-top : (m x : ℕ) → x < 2 ^ m → ones (2 ^ m + x) ≡ 1 + ones x
+ones-top m x l = ap (λ (z : ℕ). ones (z + x)) (sym (one-mul (2 ^ m))) ∙ ones-cat m 1 x l ∙ ap (λ (z : ℕ). z + ones x) ones-one
+
+module _ {r : Masks} {n c : ℕ} where
+  pub leaf : Candidate r c → First r n 0 c c
+  leaf d = record { more = 0; is = omega arith; below = pow-pos n; size = ones-zero; candidate = d; least = λ y l e x. omega arith }
+
+  pub no-leaf : (Candidate r c → ⊥) → None r n 0 c
+  no-leaf f = record { none = λ y l e d. f (subst (λ (z : ℕ). Candidate r z) (omega (arith, no-ones y e)) d) }
+
+  pub too-few : {k : ℕ} → n < k → None r n k c
+  too-few h = record { none = λ y l e d. omega (arith, ones-le n y l) }
+
+module _ {n m : ℕ} (e : n ≡ suc m) where
+  double : 2 ^ n ≡ 2 * 2 ^ m
+  double = ap (λ (x : ℕ). 2 ^ x) e ∙ pow-suc 2 m ∙ mul-comm (2 ^ m) 2
+
+  -- y is below m, or holds m
+  split : {y : ℕ} → y < 2 ^ n → (y < 2 ^ m) ⊎ ((x : ℕ) × (y ≡ 2 ^ m + x) × (x < 2 ^ m))
+  split {y} l = ⊎-elim
+      (λ h. inr (y - 2 ^ m, omega arith, omega (arith, double)))
+      (λ h. inl h)
+      (le-or-lt (2 ^ m) y)
+
+  pub top-small : 2 ^ m < 2 ^ n
+  top-small = omega (arith, double, pow-pos m)
+
+module _ {r : Masks} {n m c : ℕ} (e : n ≡ suc m) where
+  pub keep : {k s : ℕ} → First r m k c s → First r n k c s
+  keep f = record {
+    more = f .more;
+    is = f .is;
+    below = omega (arith, double e, f .below);
+    size = f .size;
+    candidate = f .candidate;
+    least = λ y l o d. ⊎-elim (λ h. f .least y h o d) (λ w. omega (arith, f .below, w .1)) (split e l);
+  }
+
+  pub neither : {k : ℕ} → 0 < k → None r m k c → None r m (k - 1) (c + 2 ^ m) → None r n k c
+  neither {k} p f g = record {
+    none = λ y l o d. ⊎-elim
+        (λ h. f .none y h o d)
+        (λ w. g .none (w .0) (w .2) (omega (arith, ones-top m (w .0) (w .2), ap ones (w .1)))
+        (subst (λ (z : ℕ). Candidate r z) (omega (arith, w .1)) d))
+        (split e l);
+  }
+
+  pub include : {k s : ℕ} → 0 < k → None r m k c → First r m (k - 1) (c + 2 ^ m) s → First r n k c s
+  include {k} {s} p f g = record {
+    more = 2 ^ m + g .more;
+    is = omega (arith, g .is);
+    below = omega (arith, double e, g .below);
+    size = omega (arith, ones-top m (g .more) (g .below), g .size);
+    candidate = g .candidate;
+    least = λ y l o d. ⊎-elim
+        (λ h. absurd (f .none y h o d))
+        (λ w. omega (
+          arith,
+          w .1,
+          g .least (w .0) (w .2) (omega (arith, ones-top m (w .0) (w .2), ap ones (w .1)))
+              (subst (λ (z : ℕ). Candidate r z) (omega (arith, w .1)) d),
+        ))
+        (split e l);
+  }
+
+  pub step : {k : ℕ} (f : Found) → 0 < k → None r m k c → LeastIn r m (k - 1) (c + 2 ^ m) f → LeastIn r n k c f
+  step (Set s) p a b = include p a b
+  step Nothing p a b = neither p a b
+
+  halved : {b : ℕ} (s : State r n c b) → c ≡ s .head * 2 * 2 ^ m
+  halved s = s .above ∙ ap (λ (x : ℕ). s .head * x) (double e) ∙ sym (mul-assoc (s .head) 2 (2 ^ m))
+
+  -- m is passed by
+  pub without : {b : ℕ} → State r n c b → State r m c (bitOr b (2 ^ m))
+  without {b} s = record {
+    few = s .few;
+    small = omega (arith, s .small);
+    head = s .head * 2;
+    above = halved s;
+    room = omega (arith, double e, s .room);
+    barred = λ y l q i j.
+        let l′ : y < 2 ^ n = omega (arith, top-small e) in
+        ⊎-elim
+        (λ x. s .barred y l′ q i x)
+        (λ x. ⊎-elim
+        (λ z. omega (arith, in-ge (s .head) n (s .above) z, pow-in m x))
+        (λ z. omega (arith, in-lt m z l, pow-in m x))
+        (sum-in (s .head) n (s .above) l′ i))
+        (or-in b (2 ^ m) j);
+  }
+
+  pub room : {b : ℕ} → State r n c b → (m < 20) × (c + 2 ^ m < 2 ^ 20)
+  room s = (omega (arith, s .few, s .small), omega (arith, s .room, pow-mono (s .few), double e, pow-pos m))
+
+  -- m is added
+  pub «with» : {b : ℕ} → State r n c b → State r m (c + 2 ^ m) b
+  «with» {b} s = record {
+    few = s .few;
+    small = omega (arith, s .small);
+    head = s .head * 2 + 1;
+    above = omega (arith, halved s, add-mul (s .head * 2) 1 (2 ^ m), one-mul (2 ^ m));
+    room = omega (arith, double e, s .room);
+    barred = λ y l. subst (λ (z : ℕ). Apart z b) (omega arith) (s .barred (2 ^ m + y) (omega (arith, double e)));
+  }
+
+-- ---- from the search to the least candidate
+
+pub start : (r : Masks) → r .count ≤ 20 → State r (r .count) 0 0
+start r h = record {
+  few = h;
+  small = omega arith;
+  head = 0;
+  above = omega arith;
+  room = omega arith;
+  barred = λ y l q i j. none-in-zero q j;
+}
+
+module _ {r : Masks} {k : ℕ} (low : (t : ℕ) → Candidate r t → k ≤ ones t) where
+  pub first : {s : ℕ} → First r (r .count) k 0 s → Least r (Set s)
+  first {s} f = (
+    f .candidate,
+    λ t d.
+        let e : s ≡ f .more = omega (arith, f .is) in
+        let o : ones s ≡ k = ap ones e ∙ f .size in
+        ⊎-elim
+        (λ q. inr (
+          omega (arith, q, o),
+          omega (arith, e, f .least t (d .inside) (sym q) (subst (λ (z : ℕ). Candidate r z) (omega arith) d)),
+        ))
+        (λ l. inl (omega (arith, o, l)))
+        (eq-or-lt-of-le (low t d)),
+  )
+
+  pub higher : None r (r .count) k 0 → (t : ℕ) → Candidate r t → k + 1 ≤ ones t
+  higher f t d = ⊎-elim
+      (λ q. absurd (f .none t (d .inside) (sym q) (subst (λ (z : ℕ). Candidate r z) (omega arith) d)))
+      (λ l. omega arith)
+      (eq-or-lt-of-le (low t d))
+
+  pub past : r .count < k → Least r Nothing
+  past h t d = omega (arith, low t d, ones-le (r .count) t (d .inside))

@@ -1,0 +1,56 @@
+-- `search::all_calm` meets its contract: it says false only at a member that is not calm.
+use Prim.Native.Nat.{_≤_, _-_}
+use native.Mathlib.Omega.{arith}
+use borrow.Author.Tests.{not-true}
+use Rattle.search.proofs.Decide.{true-not-false}
+use Rattle.search.proofs.all_calm.Statement.{statement}
+use Rattle.search.proofs.all_calm.Tie as tie
+use Rattle.search.proofs.calm.Reads as calm-reads
+use Rattle.search.proofs.has.Reads as has-reads
+
+abbrev Inv-loop : tie.InvT-loop
+Inv-loop masks s count p₀ p = p ≤ count
+
+abbrev μ-loop : tie.MeasureT-loop
+μ-loop masks s count p₀ p = count - p
+
+loop-holds : tie.Need-loop-holds Inv-loop μ-loop
+loop-holds c = omega arith
+
+has-requires : tie.Need-has-requires Inv-loop μ-loop
+has-requires c κs = omega arith
+
+calm-requires : tie.Need-calm-requires Inv-loop μ-loop
+calm-requires c κs = omega arith
+
+returns : tie.Need-returns Inv-loop μ-loop
+returns c =
+    let then1 = c .before .before in
+    λ e f. c .before .calm .ensures .no (not-true _ (c .if2 .taken)) (f _ (then1 .before .has .ensures .yes (then1 .if1 .taken)))
+
+add-p : tie.Need-add-p Inv-loop μ-loop
+add-p c = omega arith
+
+loop-less : tie.Need-loop-less Inv-loop μ-loop
+loop-less c = omega arith
+
+loop-again : tie.Need-loop-again Inv-loop μ-loop
+loop-again c = omega arith
+
+returns-2 : tie.Need-returns-2 Inv-loop μ-loop
+returns-2 c = λ e f. true-not-false e
+
+pub all-calm-spec : {M : Type 1} → statement M
+all-calm-spec =
+    tie.close
+    (tie.spec
+    Inv-loop
+    μ-loop
+    loop-holds
+    has-requires
+    calm-requires
+    returns
+    add-p
+    loop-less
+    loop-again
+    returns-2)

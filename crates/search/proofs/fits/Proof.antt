@@ -1,0 +1,32 @@
+-- `search::fits` meets its contract: it says false only at a set that is too large, barred or not calm.
+use native.Mathlib.Omega.{arith}
+use lib.Count.{ones-le}
+use borrow.Author.Needs.{needs}
+use borrow.Author.Tests.{not-true}
+use Rattle.search.proofs.Prunes.{too-large, not-apart, not-calm}
+use Rattle.search.proofs.fits.Statement.{statement}
+use Rattle.search.proofs.fits.Tie as tie
+use Rattle.search.proofs.all_calm.Reads as all-calm-reads
+use Rattle.search.proofs.apart.Reads as apart-reads
+
+cast-size : tie.Need-cast-size
+cast-size c = record { fits = omega (arith, ones-le 32 (c .args .s) (c .fits .s .fits)) }
+
+returns : tie.Need-returns
+returns c = λ e. too-large (c .if1 .taken)
+
+apart-requires : tie.Need-apart-requires
+apart-requires c κs = search needs
+
+returns-2 : tie.Need-returns-2
+returns-2 c = λ e. not-apart (c .before .apart .ensures .no (not-true _ (c .if2 .taken)))
+
+all-calm-requires : tie.Need-all-calm-requires
+all-calm-requires c κs = search needs
+
+returns-3 : tie.Need-returns-3
+returns-3 c = λ e. not-calm (c .all-calm .ensures e)
+
+pub fits-spec : {M : Type 1} → statement M
+fits-spec =
+    tie.close (tie.spec cast-size returns apart-requires returns-2 all-calm-requires returns-3)

@@ -1,0 +1,76 @@
+-- `search::least` meets its contract. The loop's invariant: every candidate has k members or more.
+use Prim.Native.Nat.{ℕ, _+_, _-_, _≤_, zero-le}
+use native.Mathlib.Omega.{arith}
+use borrow.Author.Needs.{needs}
+use borrow.Author.Tests.{not-true}
+use lib.Count.{ones}
+use Rattle.common.specs.SetLaws.{none-in-zero}
+use Rattle.search.specs.Search.{Candidate}
+use Rattle.search.proofs.Steps.{start, first, higher, past}
+use Rattle.search.proofs.Prunes.{no-candidate}
+use Rattle.search.proofs.least.Statement.{statement}
+use Rattle.search.proofs.least.Tie as tie
+use Rattle.search.proofs.feasible.Reads as feasible-reads
+use Rattle.search.proofs.search.Reads as search-reads
+
+abbrev Inv-loop : tie.InvT-loop
+Inv-loop masks count k₀ k = ((t : ℕ) → Candidate masks t → k ≤ ones t) × (k ≤ count + 1)
+
+abbrev μ-loop : tie.MeasureT-loop
+μ-loop masks count k₀ k = count + 1 - k
+
+feasible-requires : tie.Need-feasible-requires Inv-loop μ-loop
+feasible-requires c κs = c .pre
+
+returns : tie.Need-returns Inv-loop μ-loop
+returns c = no-candidate (c .before .before .pre) (c .before .feasible .ensures (not-true _ (c .if1 .taken)))
+
+loop-holds : tie.Need-loop-holds Inv-loop μ-loop
+loop-holds c = (λ t d. zero-le, omega arith)
+
+search-requires : tie.Need-search-requires Inv-loop μ-loop
+search-requires c κs =
+    (start _ (c .before .before .before .before .pre), record { by = λ t d f q i. absurd (none-in-zero q i) })
+
+enum-known-found : tie.Need-enum-known-found Inv-loop μ-loop
+enum-known-found c = search needs
+
+returns-2 : tie.Need-returns-2 Inv-loop μ-loop
+returns-2 c =
+    let called = c .before .before .before in
+    first (called .before .before .loop .inv .0) (rw (c .before .found .given .1) at (called .search .ensures))
+
+enum-told : tie.Need-enum-told Inv-loop μ-loop
+enum-told c = search needs
+
+add-k : tie.Need-add-k Inv-loop μ-loop
+add-k c = omega arith
+
+loop-less : tie.Need-loop-less Inv-loop μ-loop
+loop-less c = omega arith
+
+loop-again : tie.Need-loop-again Inv-loop μ-loop
+loop-again c =
+    let called = c .before .before in
+    (higher (called .before .before .loop .inv .0) (rw (c .enum-told .given .1) at (called .search .ensures)), omega arith)
+
+returns-3 : tie.Need-returns-3 Inv-loop μ-loop
+returns-3 c = past (c .before .loop .inv .0) (omega arith)
+
+pub least-spec : {M : Type 1} → statement M
+least-spec =
+    tie.close
+    (tie.spec
+    Inv-loop
+    μ-loop
+    feasible-requires
+    returns
+    loop-holds
+    search-requires
+    enum-known-found
+    returns-2
+    enum-told
+    add-k
+    loop-less
+    loop-again
+    returns-3)

@@ -1,0 +1,429 @@
+// The least consistent set of principals that meets a guard. A set is a number: principal p is a member where bit p is set.
+//
+// Sets are gone through by size, and within a size by number: from the highest principal down, without it before with it.
+// What cannot be completed is not entered: `possible` looks for a set that can, by way of the givers of the wanted privilege
+// that has fewest of them, whatever their numbers. So a refusal costs about as much as a grant.
+
+ghost use mathlib.Core.Path.{_≡_};
+ghost use mathlib.Core.Bool.{true, false};
+ghost use Prim.Native.Nat.{_+_, _^_, _≤_, _<_};
+ghost use lib.Bits.{bitOr};
+ghost use lib.Count.{ones};
+ghost use Rattle.common.specs.Lists.{at};
+ghost use Rattle.common.specs.Sets.{In, Apart, Within};
+ghost use Rattle.search.specs.Search.{Good, Candidate, Least};
+ghost use Rattle.search.specs.Steps.{Decides, AllGood, MetBy, Gathers, Calm, AllCalm, NoneHolds, Asks, NoneFrom, NeededBy, WithinFrom, Joins, State, LeastIn};
+
+// The constraints and privileges of each principal, the principals that are allowed, and the guard.
+pub struct Masks {
+    pub count: usize,
+    pub allowed: u32,
+    // The principals that p excludes, and those that p needs.
+    pub excludes: [u32; 20],
+    pub needs: [u32; 20],
+    // The privileges that p has.
+    pub grants: [u64; 20],
+    // The guard: every wanted privilege, or at least one.
+    pub every: bool,
+    pub wanted: u64,
+}
+
+pub enum Found {
+    Set(u32),
+    Nothing,
+}
+
+// ---- sets
+
+// Whether p is a member of s.
+pub fn has(s: u32, p: usize) -> bool
+    requires { ⌜ p < 32 ⌝ }
+    ensures { λ r. ⌜ Decides r (In p s) ⌝ }
+{
+    (s >> p) % 2 == 1
+}
+
+// Whether a and b have no member in common.
+fn apart(a: u32, b: u32) -> bool
+    ensures { λ r. ⌜ Decides r (Apart a b) ⌝ }
+{
+    a & b == 0
+}
+
+// Whether each member of a is one of b.
+fn within(a: u32, b: u32) -> bool
+    ensures { λ r. ⌜ Decides r (Within a b) ⌝ }
+{
+    a & b == a
+}
+
+// Whether each member of a from n on is one of b.
+fn within_from(a: u32, b: u32, n: usize) -> bool
+    requires { ⌜ n < 32 ⌝ }
+    ensures { λ r. ⌜ Decides r (WithinFrom n a b) ⌝ }
+{
+    within(a >> n, b >> n)
+}
+
+// The set s with p added.
+pub fn add(s: u32, p: usize) -> u32
+    requires { ⌜ p < 20 ⌝ }
+    ensures { λ r. ⌜ r ≡ bitOr s (2 ^ p) ⌝ }
+{
+    s | (1u32 << p)
+}
+
+// The set c with m added, whose members are above m.
+fn with(c: u32, m: usize) -> u32
+    requires { ⌜ m < 20 ⌝ }
+    requires { ⌜ c + 2 ^ m < 2 ^ 20 ⌝ }
+    ensures { λ r. ⌜ r ≡ c + 2 ^ m ⌝ }
+{
+    c + (1u32 << m)
+}
+
+// The set w with what m needs added.
+fn with_needs(masks: Masks, w: u32, m: usize) -> u32
+    requires { ⌜ m < 20 ⌝ }
+    ensures { λ r. ⌜ r ≡ bitOr w (at (masks .needs) m) ⌝ }
+{
+    w | masks.needs[m]
+}
+
+// ---- candidates
+
+// Whether the privileges g meet the guard.
+pub fn meets(every: bool, wanted: u64, g: u64) -> bool
+    ensures { λ r. ⌜ Decides r (MetBy every wanted g) ⌝ }
+{
+    if every {
+        wanted & g == wanted
+    } else {
+        wanted & g != 0
+    }
+}
+
+// The privileges that the members of s below n list.
+pub fn gathered(n: usize, s: u32, lists: [u64; 20]) -> u64
+    requires { ⌜ n ≤ 20 ⌝ }
+    ensures { λ r. ⌜ Gathers n s lists r ⌝ }
+{
+    let mut g: u64 = 0;
+    let mut p: usize = 0;
+    while p < n {
+        if has(s, p) {
+            g = g | lists[p];
+        }
+        p += 1;
+    }
+    g
+}
+
+// The privileges that the members of s give.
+fn granted_by(masks: Masks, s: u32) -> u64
+    requires { ⌜ masks .count ≤ 20 ⌝ }
+    ensures { λ r. ⌜ Gathers (masks .count) s (masks .grants) r ⌝ }
+{
+    let grants = masks.grants;
+    gathered(masks.count, s, grants)
+}
+
+// Whether p may stand in s.
+fn good(masks: Masks, s: u32, p: usize) -> bool
+    requires { ⌜ p < 20 ⌝ }
+    ensures { λ r. ⌜ Decides r (Good masks s p) ⌝ }
+{
+    if has(masks.allowed, p) {
+        if apart(s, masks.excludes[p]) {
+            within(masks.needs[p], s)
+        } else {
+            false
+        }
+    } else {
+        false
+    }
+}
+
+// Whether each member of s may stand in s.
+fn all_good(masks: Masks, s: u32) -> bool
+    requires { ⌜ masks .count ≤ 20 ⌝ }
+    requires { ⌜ s < 2 ^ (masks .count) ⌝ }
+    ensures { λ r. ⌜ Decides r (AllGood masks s) ⌝ }
+{
+    let count = masks.count;
+    let mut p: usize = 0;
+    while p < count {
+        if has(s, p) {
+            if !good(masks, s, p) {
+                return false;
+            }
+        }
+        p += 1;
+    }
+    true
+}
+
+// Whether s is a candidate.
+fn candidate(masks: Masks, s: u32) -> bool
+    requires { ⌜ masks .count ≤ 20 ⌝ }
+    requires { ⌜ s < 2 ^ (masks .count) ⌝ }
+    ensures { λ r. ⌜ Decides r (Candidate masks s) ⌝ }
+{
+    let granted = granted_by(masks, s);
+    if meets(masks.every, masks.wanted, granted) {
+        all_good(masks, s)
+    } else {
+        false
+    }
+}
+
+// ---- whether a set can be completed
+
+// Whether p is allowed and excludes no member of s.
+fn calm(masks: Masks, s: u32, p: usize) -> bool
+    requires { ⌜ p < 20 ⌝ }
+    ensures { λ r. ⌜ Decides r (Calm masks s p) ⌝ }
+{
+    if has(masks.allowed, p) {
+        apart(s, masks.excludes[p])
+    } else {
+        false
+    }
+}
+
+// False only where some member of s is not allowed or excludes another.
+fn all_calm(masks: Masks, s: u32) -> bool
+    requires { ⌜ masks .count ≤ 20 ⌝ }
+    ensures { λ r. ⌜ (r ≡ false → AllCalm masks s → ⊥) ⌝ }
+{
+    let count = masks.count;
+    let mut p: usize = 0;
+    while p < count {
+        if has(s, p) {
+            if !calm(masks, s, p) {
+                return false;
+            }
+        }
+        p += 1;
+    }
+    true
+}
+
+// False only where no candidate of at most limit members holds s and none of barred.
+fn fits(masks: Masks, limit: usize, s: u32, barred: u32) -> bool
+    requires { ⌜ masks .count ≤ 20 ⌝ }
+    ensures { λ r. ⌜ (r ≡ false → NoneHolds masks limit s barred) ⌝ }
+{
+    let size = u32::count_ones(s) as usize;
+    if limit < size {
+        return false;
+    }
+    if !apart(s, barred) {
+        return false;
+    }
+    all_calm(masks, s)
+}
+
+// Of the wanted privileges that are not granted, one that few principals can give: first one that none can, then one, then two.
+// Any answer will do.
+fn rarest(masks: Masks, chosen: u32, granted: u64, barred: u32) -> u64 {
+    let unmet = masks.wanted & !granted;
+    let mut once: u64 = 0;
+    let mut twice: u64 = 0;
+    let mut thrice: u64 = 0;
+    let mut p: usize = 0;
+    while p < 20 {
+        let g = open_grants(masks, chosen, barred, p);
+        thrice = thrice | (twice & g);
+        twice = twice | (once & g);
+        once = once | g;
+        p += 1;
+    }
+    lowest(first_of(unmet & !once, unmet & !twice, unmet & !thrice, unmet))
+}
+
+// What p gives, where p can be added to the chosen ones.
+fn open_grants(masks: Masks, chosen: u32, barred: u32, p: usize) -> u64
+    requires { ⌜ p < 20 ⌝ }
+{
+    if has(barred, p) {
+        return 0;
+    }
+    if calm(masks, chosen, p) {
+        return masks.grants[p];
+    }
+    0
+}
+
+// The first that is not empty.
+fn first_of(a: u64, b: u64, c: u64, d: u64) -> u64 {
+    if a != 0 {
+        return a;
+    }
+    if b != 0 {
+        return b;
+    }
+    if c != 0 {
+        return c;
+    }
+    d
+}
+
+// The lowest member alone.
+fn lowest(x: u64) -> u64 {
+    x & std::num::wrapping_add_u64(!x, 1)
+}
+
+// Privileges of which every candidate has a member that gives some.
+fn asked(masks: Masks, chosen: u32, granted: u64, barred: u32) -> u64
+    requires { ⌜ (masks .wanted ≡ 0 → ⊥) ⌝ }
+    ensures { λ r. ⌜ Asks masks r ⌝ }
+{
+    if masks.every {
+        let x = masks.wanted & rarest(masks, chosen, granted, barred);
+        if x != 0 {
+            return x;
+        }
+    }
+    masks.wanted
+}
+
+// False only where no candidate of at most limit members holds chosen, whose members give granted, and none of barred.
+fn possible(
+    masks: Masks,
+    limit: usize,
+    depth: usize,
+    chosen: u32,
+    granted: u64,
+    barred: u32,
+) -> bool
+    requires { ⌜ masks .count ≤ 20 ⌝ }
+    ensures { λ r. ⌜ (r ≡ false → NoneHolds masks limit chosen barred) ⌝ }
+{
+    if meets(masks.every, masks.wanted, granted) {
+        return true;
+    }
+    if masks.wanted == 0 {
+        return masks.every;
+    }
+    if depth == 0 {
+        return true;
+    }
+    let x = asked(masks, chosen, granted, barred);
+    by_giver(masks, limit, depth, chosen, barred, x, 0)
+}
+
+// The same of the candidates with a member from p on that gives some of x: with p, if p does; then, p barred, with a later one.
+fn by_giver(
+    masks: Masks,
+    limit: usize,
+    depth: usize,
+    chosen: u32,
+    barred: u32,
+    x: u64,
+    p: usize,
+) -> bool
+    requires { ⌜ (masks .count ≤ 20) × (0 < depth) ⌝ }
+    ensures { λ r. ⌜ (r ≡ false → NoneFrom masks limit chosen barred x p) ⌝ }
+{
+    if masks.count <= p {
+        return false;
+    }
+    if !meets(false, x, masks.grants[p]) {
+        return by_giver(masks, limit, depth, chosen, barred, x, p + 1);
+    }
+    let grown = with_needs(masks, add(chosen, p), p);
+    if fits(masks, limit, grown, barred) {
+        let given = granted_by(masks, grown);
+        if possible(masks, limit, depth - 1, grown, given, barred) {
+            return true;
+        }
+    }
+    by_giver(masks, limit, depth, chosen, add(barred, p), x, p + 1)
+}
+
+// False only where no candidate of at most limit members holds s and none of barred.
+fn feasible(masks: Masks, limit: usize, s: u32, barred: u32) -> bool
+    requires { ⌜ masks .count ≤ 20 ⌝ }
+    ensures { λ r. ⌜ (r ≡ false → NoneHolds masks limit s barred) ⌝ }
+{
+    if !fits(masks, limit, s, barred) {
+        return false;
+    }
+    let granted = granted_by(masks, s);
+    possible(masks, limit, 20, s, granted, barred)
+}
+
+// ---- the search
+
+// Whether m may stand with the set c, whose members are above m.
+fn joins(masks: Masks, c: u32, m: usize) -> bool
+    requires { ⌜ m < 20 ⌝ }
+    ensures { λ r. ⌜ Decides r (Joins masks c m) ⌝ }
+{
+    if has(masks.allowed, m) {
+        if apart(c, masks.excludes[m]) {
+            within_from(masks.needs[m], c, m + 1)
+        } else {
+            false
+        }
+    } else {
+        false
+    }
+}
+
+// The least candidate that is chosen and k more principals below n. Every candidate that holds the chosen ones holds those needed;
+// those barred have been passed by.
+fn search(masks: Masks, n: usize, k: usize, chosen: u32, needed: u32, barred: u32) -> Found
+    requires { ⌜ State masks n chosen barred ⌝ }
+    requires { ⌜ NeededBy masks chosen needed ⌝ }
+    ensures { λ r. ⌜ LeastIn masks n k chosen r ⌝ }
+{
+    if k == 0 {
+        if candidate(masks, chosen) {
+            return Found::Set(chosen);
+        }
+        return Found::Nothing;
+    }
+    if n < k {
+        return Found::Nothing;
+    }
+    let size = (u32::count_ones(chosen) as usize) + k;
+    if !feasible(masks, size, chosen | needed, barred) {
+        return Found::Nothing;
+    }
+    let m = n - 1;
+    if !has(needed, m) {
+        let passed = add(barred, m);
+        let without = search(masks, m, k, chosen, needed, passed);
+        if let Found::Set(s) = without {
+            return Found::Set(s);
+        }
+    }
+    if !joins(masks, chosen, m) {
+        return Found::Nothing;
+    }
+    let grown = with(chosen, m);
+    let wants = with_needs(masks, needed, m);
+    search(masks, m, k - 1, grown, wants, barred)
+}
+
+// The least candidate.
+pub fn least(masks: Masks) -> Found
+    requires { ⌜ masks .count ≤ 20 ⌝ }
+    ensures { λ r. ⌜ Least masks r ⌝ }
+{
+    let count = masks.count;
+    if !feasible(masks, 20, 0, 0) {
+        return Found::Nothing;
+    }
+    let mut k: usize = 0;
+    while k <= count {
+        let found = search(masks, count, k, 0, 0, 0);
+        if let Found::Set(s) = found {
+            return Found::Set(s);
+        }
+        k += 1;
+    }
+    Found::Nothing
+}
