@@ -7,9 +7,10 @@ use lib.ListN.{getD}
 use lib.Dec.{eqb}
 use Rattle.common.specs.Lists.{at, any, below, table}
 use Rattle.common.specs.Sets.{member}
+use Rattle.rows.specs.Op.{Op}
 use Rattle.policy.specs.declared.Record.{Record}
 use Rattle.formula.specs.declared.Setting.{Setting}
-use Rattle.formula.specs.Formula.{holdsRole, trueBelow}
+use Rattle.formula.specs.Formula.{holdsRole, meaning, trueBelow}
 
 -- v is in the set
 abbrev pub has : List Bool → ℕ → Bool
@@ -30,6 +31,10 @@ goes n labels label from to p here = some n (λ e. eqb (at labels e) label && (e
 -- a setting's edges
 abbrev pub edgesOf : Setting → List (List ℕ)
 edgesOf q = table (q .«edge_count») (λ i. at (q .labels) i ∷ at (q .sources) i ∷ at (q .targets) i ∷ [])
+
+-- the formula (op, a, b) in a setting, `part` for its parts, at v
+abbrev pub means : Setting → Op → ℕ → ℕ → (ℕ → ℕ → Bool) → ℕ → Bool
+means q op a b part v = meaning (λ x. member x (q .roles)) (edgesOf q) (q .object) (q .requestor) op a b part v
 
 -- a setting's formula f, where it is below n, at v
 unfoldable pub trueIn : Setting → ℕ → ℕ → ℕ → Bool

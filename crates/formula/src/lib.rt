@@ -8,8 +8,9 @@ ghost use lib.ListN.{length};
 ghost use lib.Dec.{eqb};
 ghost use Rattle.common.specs.Lists.{at};
 ghost use Rattle.common.specs.Sets.{member};
+ghost use Rattle.rows.specs.Op.{opOf};
 ghost use Rattle.formula.specs.Formula.{holdsRole};
-ghost use Rattle.formula.specs.Evaluation.{has, reached, goes, trueIn, Sets};
+ghost use Rattle.formula.specs.Evaluation.{has, reached, goes, means, trueIn, Sets};
 use policy::Record;
 
 // What a formula is evaluated in: the edges and formulas of a record, the requestor's roles, the object and the requestor.
@@ -137,6 +138,25 @@ fn mark_back(
 
 // ---- formulas
 
+// Of the asked vertices those where a formula without parts is true: op 0 to 3, with its a. Of another op none.
+fn plain(q: Setting, op: u8, left: u8, asked: [bool; 256]) -> [bool; 256]
+    ensures { λ r. ⌜ (op ≤ 3 → (b : ℕ) (part : ℕ → ℕ → Bool) (v : ℕ) → has r v ≡ (has asked v && means q (opOf op) left b part v)) × (3 < op → (v : ℕ) → has r v ≡ false) ⌝ }
+{
+    match op {
+        0 => asked,
+        1 => only(asked, q.requestor),
+        2 => only(asked, q.object),
+        3 => {
+            if holds_role(q.roles, left) {
+                asked
+            } else {
+                none()
+            }
+        }
+        4..=255 => none(),
+    }
+}
+
 // Of the asked vertices those where formula g is true, if g is below f; else none.
 fn part(q: Setting, f: usize, g: usize, asked: [bool; 256]) -> [bool; 256]
     requires { ⌜ (q .«edge_count» ≤ 512) × (f < 64) ⌝ }
@@ -170,20 +190,10 @@ pub fn truth(q: Setting, f: usize, asked: [bool; 256]) -> [bool; 256]
     }
     let op = q.ops[f];
     let left = q.lefts[f];
-    let right = q.rights[f];
     let a = place(left);
-    let b = place(right);
+    let b = place(q.rights[f]);
     match op {
-        0 => asked,
-        1 => only(asked, q.requestor),
-        2 => only(asked, q.object),
-        3 => {
-            if holds_role(q.roles, left) {
-                asked
-            } else {
-                none()
-            }
-        }
+        0..=3 => plain(q, op, left, asked),
         4 => {
             let t = part(q, f, a, asked);
             minus(asked, t)

@@ -2,7 +2,7 @@
 //
 // Sets are gone through by size, and within a size by number: from the highest principal down, without it before with it.
 // What cannot be completed is not entered: `possible` looks for a set that can, by way of the givers of the wanted privilege
-// that has fewest of them, whatever their numbers. So a refusal costs about as much as a grant.
+// that has fewest of them, whatever their numbers. So a refusal costs no more than a grant.
 
 ghost use mathlib.Core.Path.{_≡_};
 ghost use mathlib.Core.Bool.{true, false};

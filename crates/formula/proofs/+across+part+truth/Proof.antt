@@ -2,15 +2,16 @@
 use Prim.Native.Nat.{ℕ, _+_, _*_, _<_}
 use mathlib.Core.Path.{refl, sym, _∙_, ap, ap₂}
 use mathlib.Core.Bool.{Bool, not, _&&_, _||_}
+use native.Mathlib.Omega.{arith}
 use borrow.Author.Needs.{needs}
 use Rattle.common.specs.Lists.{at}
-use Rattle.common.specs.BoolLaws.{and-false, and-true}
+use Rattle.common.specs.BoolLaws.{and-false}
 use Rattle.rows.specs.Op.{Op}
 use Rattle.formula.specs.Formula.{meaning}
-use Rattle.formula.specs.Evaluation.{has, goes, trueIn}
+use Rattle.formula.specs.Evaluation.{has, goes, means, trueIn}
 use Rattle.formula.specs.EvaluationLaws.{below-out}
 use Rattle.formula.proofs.Laws.{and-assoc, and-or, and-not, back-law}
-use Rattle.formula.proofs.Recursion.{means, no-op, onward-goes, backward-goes, part-true, arm}
+use Rattle.formula.proofs.Recursion.{no-op, onward-goes, backward-goes, part-true, arm}
 use borrow.Fn.Kinds.{In}
 use borrow.Fn.PlainCycle.{Measures, is, falls, and}
 use Rattle.formula.proofs.across.Reads as across
@@ -22,13 +23,12 @@ use Rattle.formula.proofs.+across+part+truth.Lts-part as part-lts
 use Rattle.formula.proofs.truth.Reads as truth
 use Rattle.formula.proofs.truth.Kinds as truth-kinds
 use Rattle.formula.proofs.+across+part+truth.Lts-truth as truth-lts
-use Rattle.formula.proofs.holds_role.Reads as holds-role-reads
 use Rattle.formula.proofs.mark.Reads as mark-reads
 use Rattle.formula.proofs.mark_back.Reads as mark-back-reads
 use Rattle.formula.proofs.minus.Reads as minus-reads
 use Rattle.formula.proofs.none.Reads as none-reads
-use Rattle.formula.proofs.only.Reads as only-reads
 use Rattle.formula.proofs.place.Reads as place-reads
+use Rattle.formula.proofs.plain.Reads as plain-reads
 use Rattle.formula.proofs.union.Reads as union-reads
 use Rattle.formula.proofs.+across+part+truth.{statement}
 use Rattle.formula.proofs.+across+part+truth.Tie.{close}
@@ -67,7 +67,7 @@ abbrev part-claims : ℕ → part-lts.Claims
 part-claims t = (truth-below t, truth.Post, none-reads.Asked, none-reads.Learnt)
 
 abbrev truth-claims : ℕ → truth-lts.Claims
-truth-claims t = (none-reads.Asked, none-reads.Learnt, place-reads.Asked, place-reads.Learnt, only-reads.Asked, only-reads.Learnt, holds-role-reads.Asked, holds-role-reads.Learnt, part-below t, part.Post, minus-reads.Asked, minus-reads.Learnt, union-reads.Asked, union-reads.Learnt, across-below t, across.Post)
+truth-claims t = (none-reads.Asked, none-reads.Learnt, place-reads.Asked, place-reads.Learnt, part-below t, part.Post, minus-reads.Asked, minus-reads.Learnt, union-reads.Asked, union-reads.Learnt, across-below t, across.Post, plain-reads.Asked, plain-reads.Learnt)
 
 across-element-copy-out-a : (t : ℕ) → across-lts.Need-element-copy-out-a (across-claims t) (across-at t) across.Post
 across-element-copy-out-a t c = search needs
@@ -131,26 +131,14 @@ truth-element-copy-out-op t c = search needs
 truth-element-copy-out-left : (t : ℕ) → truth-lts.Need-element-copy-out-left (truth-claims t) (truth-at t) truth.Post
 truth-element-copy-out-left t c = search needs
 
-truth-element-copy-out-right : (t : ℕ) → truth-lts.Need-element-copy-out-right (truth-claims t) (truth-at t) truth.Post
-truth-element-copy-out-right t c = search needs
-
 truth-place-requires : (t : ℕ) → truth-lts.Need-place-requires (truth-claims t) (truth-at t) truth.Post
 truth-place-requires t c κs = search needs
 
+truth-element-copy-out-place : (t : ℕ) → truth-lts.Need-element-copy-out-place (truth-claims t) (truth-at t) truth.Post
+truth-element-copy-out-place t c = search needs
+
 truth-place-requires-2 : (t : ℕ) → truth-lts.Need-place-requires-2 (truth-claims t) (truth-at t) truth.Post
 truth-place-requires-2 t c κs = search needs
-
-truth-only-requires : (t : ℕ) → truth-lts.Need-only-requires (truth-claims t) (truth-at t) truth.Post
-truth-only-requires t c κs = search needs
-
-truth-only-requires-2 : (t : ℕ) → truth-lts.Need-only-requires-2 (truth-claims t) (truth-at t) truth.Post
-truth-only-requires-2 t c κs = search needs
-
-truth-holds-role-requires : (t : ℕ) → truth-lts.Need-holds-role-requires (truth-claims t) (truth-at t) truth.Post
-truth-holds-role-requires t c κs = search needs
-
-truth-none-requires-2 : (t : ℕ) → truth-lts.Need-none-requires-2 (truth-claims t) (truth-at t) truth.Post
-truth-none-requires-2 t c κs = search needs
 
 truth-part-requires : (t : ℕ) → truth-lts.Need-part-requires (truth-claims t) (truth-at t) truth.Post
 truth-part-requires t c κs = search needs
@@ -179,52 +167,64 @@ truth-across-requires t c κs = search needs
 truth-across-requires-2 : (t : ℕ) → truth-lts.Need-across-requires-2 (truth-claims t) (truth-at t) truth.Post
 truth-across-requires-2 t c κs = search needs
 
-truth-none-requires-3 : (t : ℕ) → truth-lts.Need-none-requires-3 (truth-claims t) (truth-at t) truth.Post
-truth-none-requires-3 t c κs = search needs
+truth-plain-requires : (t : ℕ) → truth-lts.Need-plain-requires (truth-claims t) (truth-at t) truth.Post
+truth-plain-requires t c κs = search needs
+
+truth-none-requires-2 : (t : ℕ) → truth-lts.Need-none-requires-2 (truth-claims t) (truth-at t) truth.Post
+truth-none-requires-2 t c κs = search needs
 
 truth-returns-2 : (t : ℕ) → truth-lts.Need-returns-2 (truth-claims t) (truth-at t) truth.Post
 unfolding meaning
 truth-returns-2 t c =
-    let m = c in
-    let p = m .before in
-    let a = p .before .before .before .before .before .before .args in
-    let l = p .before .before .before .before .before .if1 .left in
-    λ v.
-    arm (a .t1) (a .f) v 0 l (m .match .keys1) (has (a .asked) v) (has (a .asked) v)
-    (sym (and-true (has (a .asked) v)))
-
-truth-returns-3 : (t : ℕ) → truth-lts.Need-returns-3 (truth-claims t) (truth-at t) truth.Post
-unfolding meaning
-truth-returns-3 t c =
-    let m = c .before in
-    let p = m .before in
-    let a = p .before .before .before .before .before .before .args in
-    let l = p .before .before .before .before .before .if1 .left in
-    λ v.
-    arm (a .t1) (a .f) v 1 l (m .match .keys2) (has (a .asked) v) (has (c .only .result) v)
-    (c .only .ensures v)
-
-truth-returns-4 : (t : ℕ) → truth-lts.Need-returns-4 (truth-claims t) (truth-at t) truth.Post
-unfolding meaning
-truth-returns-4 t c =
-    let m = c .before in
-    let p = m .before in
-    let a = p .before .before .before .before .before .before .args in
-    let l = p .before .before .before .before .before .if1 .left in
-    λ v.
-    arm (a .t1) (a .f) v 2 l (m .match .keys3) (has (a .asked) v) (has (c .only2 .result) v)
-    (c .only2 .ensures v)
-
-truth-returns-5 : (t : ℕ) → truth-lts.Need-returns-5 (truth-claims t) (truth-at t) truth.Post
-unfolding meaning
-truth-returns-5 t c =
     let m = c .before .before in
     let p = m .before in
     let a = p .before .before .before .before .before .before .args in
     let l = p .before .before .before .before .before .if1 .left in
     λ v.
-    arm (a .t1) (a .f) v 3 l (m .match .keys4) (has (a .asked) v) (has (a .asked) v)
-    (sym (ap (λ (b : Bool). has (a .asked) v && b) (sym (c .before .holds-role .ensures) ∙ c .if2 .taken) ∙ and-true (has (a .asked) v)))
+    arm (a .t1) (a .f) v 4 l (m .match .keys1) (has (a .asked) v) (has (c .minus .result) v)
+    (c .minus .ensures v
+    ∙ ap (λ (b : Bool). has (a .asked) v && not b) (c .before .part .ensures v)
+    ∙ and-not (has (a .asked) v) (trueIn (a .t1) (a .f) (p .before .before .place .result) v)
+    ∙ ap (λ (g : ℕ). has (a .asked) v && not (trueIn (a .t1) (a .f) g v)) (p .before .before .place .ensures .0))
+
+truth-returns-3 : (t : ℕ) → truth-lts.Need-returns-3 (truth-claims t) (truth-at t) truth.Post
+unfolding meaning
+truth-returns-3 t c =
+    let m = c .before .before in
+    let p = m .before in
+    let a = p .before .before .before .before .before .before .args in
+    let l = p .before .before .before .before .before .if1 .left in
+    λ v.
+    arm (a .t1) (a .f) v 5 l (m .match .keys2) (has (a .asked) v) (has (c .part3 .result) v)
+    (c .part3 .ensures v
+    ∙ ap (λ (b : Bool). b && trueIn (a .t1) (a .f) (p .place2 .result) v) (c .before .part2 .ensures v)
+    ∙ and-assoc (has (a .asked) v) (trueIn (a .t1) (a .f) (p .before .before .place .result) v) (trueIn (a .t1) (a .f) (p .place2 .result) v)
+    ∙ ap₂ (λ (g h : ℕ). has (a .asked) v && (trueIn (a .t1) (a .f) g v && trueIn (a .t1) (a .f) h v)) (p .before .before .place .ensures .0) (p .place2 .ensures .0))
+
+truth-returns-4 : (t : ℕ) → truth-lts.Need-returns-4 (truth-claims t) (truth-at t) truth.Post
+unfolding meaning
+truth-returns-4 t c =
+    let m = c .before .before .before in
+    let p = m .before in
+    let a = p .before .before .before .before .before .before .args in
+    let l = p .before .before .before .before .before .if1 .left in
+    λ v.
+    arm (a .t1) (a .f) v 6 l (m .match .keys3) (has (a .asked) v) (has (c .union .result) v)
+    (c .union .ensures v
+    ∙ ap₂ _||_ (c .before .before .part4 .ensures v) (c .before .part5 .ensures v)
+    ∙ and-or (has (a .asked) v) (trueIn (a .t1) (a .f) (p .before .before .place .result) v) (trueIn (a .t1) (a .f) (p .place2 .result) v)
+    ∙ ap₂ (λ (g h : ℕ). has (a .asked) v && (trueIn (a .t1) (a .f) g v || trueIn (a .t1) (a .f) h v)) (p .before .before .place .ensures .0) (p .place2 .ensures .0))
+
+truth-returns-5 : (t : ℕ) → truth-lts.Need-returns-5 (truth-claims t) (truth-at t) truth.Post
+unfolding meaning
+truth-returns-5 t c =
+    let m = c .before .before .before in
+    let p = m .before in
+    let a = p .before .before .before .before .before .before .args in
+    let l = p .before .before .before .before .before .if1 .left in
+    λ v.
+    arm (a .t1) (a .f) v 7 l (m .match .keys4) (has (a .asked) v) (has (c .across .result) v)
+    (c .across .ensures v ∙ ap (λ (b : Bool). has (a .asked) v && b) (onward-goes (a .t1) (at (a .t1 .lefts) (a .f)) (trueIn (a .t1) (a .f) (at (a .t1 .rights) (a .f))) v))
 
 truth-returns-6 : (t : ℕ) → truth-lts.Need-returns-6 (truth-claims t) (truth-at t) truth.Post
 unfolding meaning
@@ -234,87 +234,29 @@ truth-returns-6 t c =
     let a = p .before .before .before .before .before .before .args in
     let l = p .before .before .before .before .before .if1 .left in
     λ v.
-    arm (a .t1) (a .f) v 3 l (m .match .keys4) (has (a .asked) v) (has (c .none2 .result) v)
-    (c .none2 .ensures .1 v ∙ sym (ap (λ (b : Bool). has (a .asked) v && b) (sym (c .before .before .holds-role .ensures) ∙ c .before .if2 .left) ∙ and-false (has (a .asked) v)))
+    arm (a .t1) (a .f) v 8 l (m .match .keys5) (has (a .asked) v) (has (c .across2 .result) v)
+    (c .across2 .ensures v ∙ ap (λ (b : Bool). has (a .asked) v && b) (backward-goes (a .t1) (at (a .t1 .lefts) (a .f)) (trueIn (a .t1) (a .f) (at (a .t1 .rights) (a .f))) v))
 
 truth-returns-7 : (t : ℕ) → truth-lts.Need-returns-7 (truth-claims t) (truth-at t) truth.Post
-unfolding meaning
 truth-returns-7 t c =
-    let m = c .before .before in
-    let p = m .before in
+    let p = c .before .before .before in
     let a = p .before .before .before .before .before .before .args in
     let l = p .before .before .before .before .before .if1 .left in
     λ v.
-    arm (a .t1) (a .f) v 4 l (m .match .keys5) (has (a .asked) v) (has (c .minus .result) v)
-    (c .minus .ensures v
-    ∙ ap (λ (b : Bool). has (a .asked) v && not b) (c .before .part .ensures v)
-    ∙ and-not (has (a .asked) v) (trueIn (a .t1) (a .f) (p .before .place .result) v)
-    ∙ ap (λ (g : ℕ). has (a .asked) v && not (trueIn (a .t1) (a .f) g v)) (p .before .place .ensures .0))
+    arm (a .t1) (a .f) v (at (a .t1 .ops) (a .f)) l refl (has (a .asked) v) (has (c .plain .result) v)
+    (c .plain .ensures .0 (omega arith) (at (a .t1 .rights) (a .f)) (trueIn (a .t1) (a .f)) v)
 
 truth-returns-8 : (t : ℕ) → truth-lts.Need-returns-8 (truth-claims t) (truth-at t) truth.Post
 unfolding meaning
 truth-returns-8 t c =
-    let m = c .before .before in
-    let p = m .before in
+    let p = c .before .before .before in
     let a = p .before .before .before .before .before .before .args in
     let l = p .before .before .before .before .before .if1 .left in
-    λ v.
-    arm (a .t1) (a .f) v 5 l (m .match .keys6) (has (a .asked) v) (has (c .part3 .result) v)
-    (c .part3 .ensures v
-    ∙ ap (λ (b : Bool). b && trueIn (a .t1) (a .f) (p .place2 .result) v) (c .before .part2 .ensures v)
-    ∙ and-assoc (has (a .asked) v) (trueIn (a .t1) (a .f) (p .before .place .result) v) (trueIn (a .t1) (a .f) (p .place2 .result) v)
-    ∙ ap₂ (λ (g h : ℕ). has (a .asked) v && (trueIn (a .t1) (a .f) g v && trueIn (a .t1) (a .f) h v)) (p .before .place .ensures .0) (p .place2 .ensures .0))
-
-truth-returns-9 : (t : ℕ) → truth-lts.Need-returns-9 (truth-claims t) (truth-at t) truth.Post
-unfolding meaning
-truth-returns-9 t c =
-    let m = c .before .before .before in
-    let p = m .before in
-    let a = p .before .before .before .before .before .before .args in
-    let l = p .before .before .before .before .before .if1 .left in
-    λ v.
-    arm (a .t1) (a .f) v 6 l (m .match .keys7) (has (a .asked) v) (has (c .union .result) v)
-    (c .union .ensures v
-    ∙ ap₂ _||_ (c .before .before .part4 .ensures v) (c .before .part5 .ensures v)
-    ∙ and-or (has (a .asked) v) (trueIn (a .t1) (a .f) (p .before .place .result) v) (trueIn (a .t1) (a .f) (p .place2 .result) v)
-    ∙ ap₂ (λ (g h : ℕ). has (a .asked) v && (trueIn (a .t1) (a .f) g v || trueIn (a .t1) (a .f) h v)) (p .before .place .ensures .0) (p .place2 .ensures .0))
-
-truth-returns-10 : (t : ℕ) → truth-lts.Need-returns-10 (truth-claims t) (truth-at t) truth.Post
-unfolding meaning
-truth-returns-10 t c =
-    let m = c .before .before .before in
-    let p = m .before in
-    let a = p .before .before .before .before .before .before .args in
-    let l = p .before .before .before .before .before .if1 .left in
-    λ v.
-    arm (a .t1) (a .f) v 7 l (m .match .keys8) (has (a .asked) v) (has (c .across .result) v)
-    (c .across .ensures v ∙ ap (λ (b : Bool). has (a .asked) v && b) (onward-goes (a .t1) (at (a .t1 .lefts) (a .f)) (trueIn (a .t1) (a .f) (at (a .t1 .rights) (a .f))) v))
-
-truth-returns-11 : (t : ℕ) → truth-lts.Need-returns-11 (truth-claims t) (truth-at t) truth.Post
-unfolding meaning
-truth-returns-11 t c =
-    let m = c .before .before .before in
-    let p = m .before in
-    let a = p .before .before .before .before .before .before .args in
-    let l = p .before .before .before .before .before .if1 .left in
-    λ v.
-    arm (a .t1) (a .f) v 8 l (m .match .keys9) (has (a .asked) v) (has (c .across2 .result) v)
-    (c .across2 .ensures v ∙ ap (λ (b : Bool). has (a .asked) v && b) (backward-goes (a .t1) (at (a .t1 .lefts) (a .f)) (trueIn (a .t1) (a .f) (at (a .t1 .rights) (a .f))) v))
-
-truth-returns-12 : (t : ℕ) → truth-lts.Need-returns-12 (truth-claims t) (truth-at t) truth.Post
-unfolding meaning
-truth-returns-12 t c =
-    let m = c .before in
-    let p = m .before in
-    let a = p .before .before .before .before .before .before .args in
-    let l = p .before .before .before .before .before .if1 .left in
-    let n = m .match .rest in
     let op : ℕ = at (a .t1 .ops) (a .f) in
-    let none-of = no-op op (n .0 .0 .0 .0 .0 .0 .0 .0 .1) (n .0 .0 .0 .0 .0 .0 .0 .1) (n .0 .0 .0 .0 .0 .0 .1) (n .0 .0 .0 .0 .0 .1) (n .0 .0 .0 .0 .1) (n .0 .0 .0 .1) (n .0 .0 .1) (n .0 .1) (n .1) in
     λ v.
-    arm (a .t1) (a .f) v op l refl (has (a .asked) v) (has (c .none3 .result) v)
-    (c .none3 .ensures .1 v
-    ∙ sym (ap (λ (o : Op). has (a .asked) v && means (a .t1) o (at (a .t1 .lefts) (a .f)) (at (a .t1 .rights) (a .f)) (trueIn (a .t1) (a .f)) v) none-of ∙ and-false (has (a .asked) v)))
+    arm (a .t1) (a .f) v op l refl (has (a .asked) v) (has (c .none2 .result) v)
+    (c .none2 .ensures .1 v
+    ∙ sym (ap (λ (o : Op). has (a .asked) v && means (a .t1) o (at (a .t1 .lefts) (a .f)) (at (a .t1 .rights) (a .f)) (trueIn (a .t1) (a .f)) v) (no-op op (omega arith)) ∙ and-false (has (a .asked) v)))
 
 pub +across+part+truth-spec : {M : Type 1} → statement M
 +across+part+truth-spec = close μ-across μ-part μ-truth (λ t. across-lts.spec (across-claims t) (across-at t)
@@ -338,13 +280,9 @@ pub +across+part+truth-spec : {M : Type 1} → statement M
     (truth-returns t)
     (truth-element-copy-out-op t)
     (truth-element-copy-out-left t)
-    (truth-element-copy-out-right t)
     (truth-place-requires t)
+    (truth-element-copy-out-place t)
     (truth-place-requires-2 t)
-    (truth-only-requires t)
-    (truth-only-requires-2 t)
-    (truth-holds-role-requires t)
-    (truth-none-requires-2 t)
     (truth-part-requires t)
     (truth-minus-requires t)
     (truth-part-requires-2 t)
@@ -354,7 +292,8 @@ pub +across+part+truth-spec : {M : Type 1} → statement M
     (truth-union-requires t)
     (truth-across-requires t)
     (truth-across-requires-2 t)
-    (truth-none-requires-3 t)
+    (truth-plain-requires t)
+    (truth-none-requires-2 t)
     (truth-returns-2 t)
     (truth-returns-3 t)
     (truth-returns-4 t)
@@ -362,7 +301,3 @@ pub +across+part+truth-spec : {M : Type 1} → statement M
     (truth-returns-6 t)
     (truth-returns-7 t)
     (truth-returns-8 t)
-    (truth-returns-9 t)
-    (truth-returns-10 t)
-    (truth-returns-11 t)
-    (truth-returns-12 t)

@@ -1,0 +1,615 @@
+// What an evaluation and a search for the least set cost, measured through the crate `probe` (docs/PERFORMANCE.md).
+// Everything is made from one seed. Times are processor time, the median of several calls, net of loading.
+
+use std::time::{Duration, Instant};
+
+mod probe {
+    extern "C" {
+        fn probe_formula(bundle: *const u8, length: usize, formula: u8, object: u8, requestor: u8) -> u32;
+        fn probe_least(bundle: *const u8, length: usize, method: u8, allowed: u32) -> u32;
+    }
+
+    pub fn formula(bundle: &[u8], formula: u8, object: u8, requestor: u8) -> u32 {
+        unsafe { probe_formula(bundle.as_ptr(), bundle.len(), formula, object, requestor) }
+    }
+
+    pub fn least(bundle: &[u8], method: u8, allowed: u32) -> u32 {
+        unsafe { probe_least(bundle.as_ptr(), bundle.len(), method, allowed) }
+    }
+}
+
+const NO_SET: u32 = 4294967295;
+const NO_METHOD: u32 = 4294967294;
+
+// ---- bundles
+
+struct Bundle {
+    text: Vec<u8>,
+    lines: u16,
+    sum: u32,
+}
+
+impl Bundle {
+    fn of(objects: u8) -> Bundle {
+        let mut b = Bundle { text: vec![], lines: 0, sum: 0 };
+        b.line(0x01, &[1, objects]);
+        b
+    }
+
+    fn line(&mut self, kind: u8, body: &[u8]) {
+        let mut octets = vec![body.len() as u8, kind];
+        octets.extend_from_slice(body);
+        let sum = octets.iter().fold(0u8, |s, o| s.wrapping_add(*o));
+        octets.push(sum.wrapping_neg());
+        for o in &octets {
+            self.sum += *o as u32;
+            for digit in [o >> 4, o & 15] {
+                self.text.push(b"0123456789ABCDEF"[digit as usize]);
+            }
+        }
+        self.text.push(b'\n');
+        self.lines += 1;
+    }
+
+    fn ended(mut self) -> Vec<u8> {
+        let mut body = self.lines.to_be_bytes().to_vec();
+        body.extend_from_slice(&self.sum.to_be_bytes());
+        self.line(0xFF, &body);
+        self.text
+    }
+}
+
+// ---- times, in microseconds
+
+// What this thread has used of the processor: other programs that run meanwhile do not count.
+fn used() -> f64 {
+    extern "C" {
+        fn clock_gettime(clock: i32, seconds_and_nanoseconds: *mut [i64; 2]) -> i32;
+    }
+    const THREAD: i32 = 3;
+    let mut time = [0; 2];
+    if unsafe { clock_gettime(THREAD, &mut time) } != 0 {
+        stop("no clock");
+    }
+    time[0] as f64 * 1e6 + time[1] as f64 / 1e3
+}
+
+fn timed(call: impl Fn() -> u32) -> (u32, f64) {
+    let start = used();
+    let answer = std::hint::black_box(call());
+    (answer, used() - start)
+}
+
+// The answer, and the median of so many calls.
+fn typical(calls: usize, call: impl Fn() -> u32) -> (u32, f64) {
+    let all: Vec<(u32, f64)> = (0..calls).map(|_| timed(&call)).collect();
+    (all[0].0, median(&all.iter().map(|a| a.1).collect::<Vec<f64>>()))
+}
+
+fn median(times: &[f64]) -> f64 {
+    let mut t = times.to_vec();
+    t.sort_by(f64::total_cmp);
+    t[t.len() / 2]
+}
+
+fn stop(words: &str) -> ! {
+    eprintln!("cost: {words}");
+    std::process::exit(1);
+}
+
+// ---- formulas of nested steps
+
+const OBJECTS: u8 = 22;
+const HEIGHTS: usize = 9;
+const ROUNDS: usize = 9;
+const CALLS: usize = 600;
+
+// Every object joined to every object by label 0. Formula 0 as given, formula i a step to formula i - 1.
+fn joined(innermost: [u8; 3]) -> Vec<u8> {
+    let mut b = Bundle::of(OBJECTS);
+    for from in 0..OBJECTS {
+        for to in 0..OBJECTS {
+            b.line(0x03, &[0, from, to]);
+        }
+    }
+    b.line(0x04, &innermost);
+    for i in 1..HEIGHTS as u8 {
+        b.line(0x04, &[7, 0, i - 1]);
+    }
+    b.ended()
+}
+
+fn formulas() {
+    // innermost: a role that the requestor does not hold; here is the requestor; true
+    let (object, requestor) = (0, OBJECTS - 1);
+    let innermosts = [("true nowhere", [3, 0, 0]), ("at one object", [1, 0, 0]), ("everywhere", [0, 0, 0])];
+    let bundles = innermosts.map(|(_, innermost)| joined(innermost));
+    let truths = [[0; HEIGHTS], [0, 1, 1, 1, 1, 1, 1, 1, 1], [1; HEIGHTS]];
+    for (b, truth) in bundles.iter().zip(&truths) {
+        for h in 0..HEIGHTS {
+            if probe::formula(b, h as u8, object, requestor) != truth[h] {
+                stop("an evaluation came to something else than it must");
+            }
+        }
+    }
+    // net[innermost][height][round]; the calls of a round take turns
+    let mut net = vec![vec![vec![]; HEIGHTS]; bundles.len()];
+    let mut loading = vec![];
+    for _ in 0..ROUNDS {
+        let mut times = vec![vec![vec![]; HEIGHTS]; bundles.len()];
+        for _ in 0..CALLS {
+            for (i, b) in bundles.iter().enumerate() {
+                for h in 0..HEIGHTS {
+                    times[i][h].push(timed(|| probe::formula(b, h as u8, object, requestor)).1);
+                }
+            }
+        }
+        for i in 0..bundles.len() {
+            for h in 0..HEIGHTS {
+                net[i][h].push(median(&times[i][h]) - median(&times[i][0]));
+            }
+        }
+        loading.push(median(&times[0][0]));
+    }
+    println!(
+        "Evaluation of nested steps: {} objects, all joined, {} edges.",
+        OBJECTS,
+        OBJECTS as usize * OBJECTS as usize
+    );
+    println!("Microseconds, net of height 0, whose call, loading included, takes {:.1}.", median(&loading));
+    println!("Median of {ROUNDS} rounds (lowest to highest), each the median of {CALLS} calls. By what the innermost formula is:\n");
+    println!(
+        "| height | {} | per level, slowest | edge visits, vertex by vertex |",
+        innermosts.map(|(name, _)| name).join(" | ")
+    );
+    println!("|---|---|---|---|---|---|");
+    for h in 1..HEIGHTS {
+        let cells = [0, 1, 2].map(|i| {
+            let (low, high) = net[i][h].iter().fold((f64::INFINITY, 0f64), |(l, g), t| (l.min(*t), g.max(*t)));
+            format!("{:.2} ({:.2} to {:.2})", median(&net[i][h]), low, high)
+        });
+        let slowest = (0..3).map(|i| median(&net[i][h])).fold(0.0, f64::max);
+        println!("| {} | {} | {:.2} | {} |", h, cells.join(" | "), slowest / h as f64, 22u64.pow(h as u32));
+    }
+}
+
+// ---- the least set
+
+// Of each principal the set that it excludes, the set that it needs directly, and the privileges that it gives; and the guard.
+#[derive(Clone, Copy)]
+struct Rules {
+    count: usize,
+    excludes: [u32; 20],
+    needs: [u32; 20],
+    gives: [u64; 20],
+    every: bool,
+    wanted: u64,
+}
+
+fn has(s: u32, p: usize) -> bool {
+    s >> p & 1 == 1
+}
+
+impl Rules {
+    fn exclude(&mut self, p: usize, q: usize) {
+        self.excludes[p] ^= 1 << q;
+        self.excludes[q] ^= 1 << p;
+    }
+
+    // Method 0 is the guard; method 1, all-of nothing, is met by the empty set.
+    fn bundle(&self) -> Vec<u8> {
+        let n = self.count;
+        let mut b = Bundle::of(1);
+        b.line(0x04, &[0, 0, 0]);
+        for p in 0..n {
+            b.line(0x05, &self.gives[p].to_be_bytes());
+        }
+        for p in 0..n {
+            b.line(0x07, &[0, p as u8]);
+        }
+        for p in 0..n {
+            for q in p + 1..n {
+                if has(self.excludes[p], q) {
+                    b.line(0x08, &[p as u8, q as u8]);
+                }
+            }
+        }
+        for p in 0..n {
+            for q in 0..n {
+                if has(self.needs[q], p) {
+                    b.line(0x09, &[p as u8, q as u8]);
+                }
+            }
+        }
+        let mut guard = vec![self.every as u8];
+        guard.extend_from_slice(&self.wanted.to_be_bytes());
+        b.line(0x0A, &guard);
+        b.line(0x0A, &[1, 0, 0, 0, 0, 0, 0, 0, 0]);
+        b.ended()
+    }
+
+    fn will_do(&self, s: u32, allowed: u32) -> bool {
+        let mut given = 0;
+        for p in 0..self.count {
+            if has(s, p) {
+                // a set that holds what each member needs directly holds all that they need
+                if !has(allowed, p) || s & self.excludes[p] != 0 || s & self.needs[p] != self.needs[p] {
+                    return false;
+                }
+                given |= self.gives[p];
+            }
+        }
+        if self.every {
+            given & self.wanted == self.wanted
+        } else {
+            given & self.wanted != 0
+        }
+    }
+
+    // All subsets, by brute force: fewest members, then smallest number.
+    fn least(&self, allowed: u32) -> u32 {
+        (0..1u32 << self.count)
+            .filter(|s| self.will_do(*s, allowed))
+            .min_by_key(|s| (s.count_ones(), *s))
+            .unwrap_or(NO_SET)
+    }
+}
+
+// ---- families of rules
+
+const SEED: u64 = 88172645463325252;
+
+struct Random(u64);
+
+impl Random {
+    fn next(&mut self) -> u64 {
+        self.0 ^= self.0 << 13;
+        self.0 ^= self.0 >> 7;
+        self.0 ^= self.0 << 17;
+        self.0
+    }
+
+    fn below(&mut self, n: usize) -> usize {
+        ((self.next() >> 20) % n as u64) as usize
+    }
+
+    fn of(&mut self, list: &[usize]) -> usize {
+        list[self.below(list.len())]
+    }
+
+    fn permille(&mut self, p: usize) -> bool {
+        self.below(1000) < p
+    }
+}
+
+const FAMILIES: [&str; 12] = [
+    "random exclusions and privileges",
+    "conflict at the lowest numbers",
+    "conflict at the highest numbers",
+    "conflict at the lowest, a way out with ten prerequisites",
+    "random prerequisites",
+    "pairs that exclude each other, random privileges",
+    "a privilege for each pair, pairs exclude each other",
+    "ring: each gives its own and the next one's privilege",
+    "sparse cover: 64 privileges, 2 to 5 givers each",
+    "sparse cover with exclusions",
+    "places: 5 privileges, 4 places, one giver to a place",
+    "one-of, long prerequisite chains",
+];
+
+fn first(n: usize) -> u64 {
+    if n == 64 {
+        !0
+    } else {
+        (1 << n) - 1
+    }
+}
+
+// Of n principals, at most 20.
+fn made(g: &mut Random, family: usize, n: usize) -> Rules {
+    let mut r = Rules {
+        count: n,
+        excludes: [0; 20],
+        needs: [0; 20],
+        gives: [0; 20],
+        every: true,
+        wanted: first(g.of(&[4, 10, 20, 40, 64])),
+    };
+    let exclusions = g.of(&[0, 20, 50, 100, 200, 400]);
+    let privileges = g.of(&[30, 60, 100, 150, 200, 300, 400]);
+    for p in 0..n {
+        for k in 0..64 {
+            r.gives[p] |= (g.permille(privileges) as u64) << k;
+        }
+    }
+    let randomly = |g: &mut Random, r: &mut Rules, permille: usize| {
+        for p in 0..n {
+            for q in 0..p {
+                if g.permille(permille) {
+                    r.exclude(p, q);
+                }
+            }
+        }
+    };
+    // privilege 0 from a and c only, privilege 1 from b and d only, and these exclude each other: denied
+    let conflict = |r: &mut Rules, [a, b, c, d]: [usize; 4]| {
+        for p in 0..n {
+            r.gives[p] &= !3;
+        }
+        for p in [a, c] {
+            r.gives[p] |= 1;
+            for q in [b, d] {
+                r.gives[q] |= 2;
+                r.exclude(p, q);
+            }
+        }
+    };
+    let givers = |g: &mut Random, r: &mut Rules, wanted: usize, fewest: usize| {
+        let count = fewest + g.below(4);
+        r.wanted = first(wanted);
+        r.gives = [0; 20];
+        for k in 0..wanted {
+            for _ in 0..count {
+                r.gives[g.below(n)] |= 1 << k;
+            }
+        }
+    };
+    match family {
+        0 => randomly(g, &mut r, exclusions),
+        1 => conflict(&mut r, [0, 1, 2, 3]),
+        2 => conflict(&mut r, [n - 1, n - 2, n - 3, n - 4]),
+        3 => {
+            conflict(&mut r, [0, 1, 2, 3]);
+            r.gives[4] |= 2;
+            for p in 5..n.min(15) {
+                r.needs[4] |= 1 << p;
+            }
+        }
+        4 => {
+            randomly(g, &mut r, exclusions);
+            for q in 0..n {
+                for p in 0..q {
+                    r.needs[q] |= (g.permille(50) as u32) << p;
+                }
+            }
+        }
+        5 => {
+            for p in (0..n).step_by(2) {
+                r.exclude(p, p + 1);
+            }
+        }
+        6 => {
+            r.wanted = first(n / 2);
+            for p in 0..n {
+                r.gives[p] = 1 << (p / 2);
+                if g.permille(300) {
+                    r.gives[p] |= 1 << g.below(n / 2);
+                }
+            }
+            for p in (0..n).step_by(2) {
+                r.exclude(p, p + 1);
+            }
+        }
+        7 => {
+            randomly(g, &mut r, exclusions);
+            r.wanted = first(n);
+            for p in 0..n {
+                r.gives[p] = 1 << p | 1 << ((p + 1) % n);
+            }
+        }
+        8 => givers(g, &mut r, 64, 2),
+        9 => {
+            let wanted = g.of(&[8, 12, 16, 24, 40]);
+            givers(g, &mut r, wanted, 3);
+            randomly(g, &mut r, exclusions);
+        }
+        10 => {
+            // principal p gives privilege p / 4 at the place p % 4
+            r.wanted = first(n.div_ceil(4));
+            for p in 0..n {
+                r.gives[p] = 1 << (p / 4);
+                for q in 0..p {
+                    if q % 4 == p % 4 {
+                        r.exclude(p, q);
+                    }
+                }
+            }
+            for _ in 0..g.below(6) {
+                let (p, q) = (g.below(n), g.below(n));
+                if p != q {
+                    r.exclude(p, q);
+                }
+            }
+        }
+        _ => {
+            r.every = false;
+            for q in 0..n {
+                for p in 0..q {
+                    r.needs[q] |= (g.permille(100) as u32) << p;
+                }
+                if q > 0 && g.permille(700) {
+                    r.needs[q] |= 1 << (q - 1);
+                }
+            }
+            for p in 0..n / 2 {
+                r.gives[p] = 0;
+            }
+            randomly(g, &mut r, exclusions / 10);
+        }
+    }
+    // a privilege that nobody gives would be denied at once
+    r.wanted &= r.gives.iter().fold(0, |all, g| all | g);
+    r
+}
+
+// One to four small changes.
+fn mutated(g: &mut Random, from: &Rules) -> Rules {
+    let mut r = *from;
+    for _ in 0..1 + g.below(4) {
+        let (p, q, k) = (g.below(r.count), g.below(r.count), g.below(64));
+        match g.below(5) {
+            0 if p != q => r.exclude(p, q),
+            1 if q < p => r.needs[p] ^= 1 << q,
+            2 => r.wanted ^= 1 << k,
+            _ => r.gives[p] ^= 1 << k,
+        }
+    }
+    r
+}
+
+// ---- the search, measured
+
+const INSTANCES: usize = 150;
+const CHECKED: usize = 6;
+
+struct Measured {
+    net: f64,
+    rules: Rules,
+    answer: u32,
+}
+
+fn measured(rules: Rules, calls: usize) -> Measured {
+    let all = first(rules.count) as u32;
+    let b = rules.bundle();
+    let (answer, time) = typical(calls, || probe::least(&b, 0, all));
+    let (empty, loading) = typical(calls, || probe::least(&b, 1, all));
+    if answer == NO_METHOD || empty != 0 {
+        stop("a bundle did not load");
+    }
+    Measured { net: (time - loading).max(0.0), rules, answer }
+}
+
+fn denied(m: &Measured) -> bool {
+    m.answer == NO_SET
+}
+
+fn slower(a: &Measured, b: &Measured) -> std::cmp::Ordering {
+    b.net.total_cmp(&a.net)
+}
+
+// The slowest of those that pass: the five that took longest, measured again.
+fn worst(all: &[Measured], passes: impl Fn(&Measured) -> bool) -> Option<Measured> {
+    let mut those: Vec<&Measured> = all.iter().filter(|m| passes(m)).collect();
+    those.sort_by(|a, b| slower(a, b));
+    those.iter().take(5).map(|m| measured(m.rules, 15)).min_by(slower)
+}
+
+fn shown(m: &Option<Measured>) -> String {
+    match m {
+        None => "-".to_string(),
+        Some(m) if denied(m) => format!("{:.0}", m.net),
+        Some(m) => format!("{:.0} ({})", m.net, m.answer.count_ones()),
+    }
+}
+
+// Small changes are kept where the search gets no faster; the answer stays a grant, or a denial.
+fn climbed(g: &mut Random, from: Measured, limit: Duration) -> (usize, Measured) {
+    let denial = denied(&from);
+    let (mut best, mut steps) = (from, 0);
+    let start = Instant::now();
+    while start.elapsed() < limit {
+        if steps % 64 == 0 {
+            best = measured(best.rules, 5);
+        }
+        steps += 1;
+        let next = mutated(g, &best.rules);
+        let quick = measured(next, 1);
+        if denied(&quick) == denial && quick.net >= best.net {
+            // both again, side by side: the first may have been disturbed
+            let (old, new) = (measured(best.rules, 5), measured(next, 5));
+            best = if new.net >= old.net { new } else { old };
+        }
+    }
+    (steps, measured(best.rules, 25))
+}
+
+fn described(m: &Measured) -> String {
+    let r = &m.rules;
+    let exclusions: u32 = r.excludes.iter().map(|s| s.count_ones()).sum::<u32>() / 2;
+    let prerequisites: u32 = r.needs.iter().map(|s| s.count_ones()).sum();
+    let givers: u32 = r.gives.iter().map(|g| (g & r.wanted).count_ones()).sum();
+    let wanted = r.wanted.count_ones();
+    let form = if r.every { "all" } else { "one" };
+    let answer = if denied(m) { "none".to_string() } else { format!("{} members", m.answer.count_ones()) };
+    format!("{form} of {wanted} privileges, {:.1} givers each; exclusions: {exclusions}; prerequisites: {prerequisites}; answer: {answer}", givers as f64 / wanted as f64)
+}
+
+// Answers on few principals are compared with those of a search over all subsets.
+fn compared(g: &mut Random) -> usize {
+    let mut count = 0;
+    for family in 0..FAMILIES.len() {
+        for n in [8, 10, 12] {
+            for _ in 0..CHECKED {
+                let r = made(g, family, n);
+                let b = r.bundle();
+                for allowed in [first(n) as u32, g.next() as u32] {
+                    if probe::least(&b, 0, allowed) != r.least(allowed) {
+                        stop("the least set is not that of the search over all subsets");
+                    }
+                    count += 1;
+                }
+            }
+        }
+    }
+    count
+}
+
+fn least_sets(climb: Duration) {
+    let mut g = Random(SEED);
+    let count = compared(&mut g);
+    println!("\nThe least set: 20 principals, {INSTANCES} instances of each family, seed {SEED}.");
+    println!("{count} answers on 8, 10 and 12 principals are those of a search over all subsets.");
+    println!("Microseconds, net of the same call for a guard that the empty set meets.\n");
+    println!("| family | granted | median | worst grant (members) | worst denial |");
+    println!("|---|---|---|---|---|");
+    let (mut grants, mut denials) = (vec![], vec![]);
+    for (family, name) in FAMILIES.iter().enumerate() {
+        let all: Vec<Measured> = (0..INSTANCES).map(|_| measured(made(&mut g, family, 20), 3)).collect();
+        let times: Vec<f64> = all.iter().map(|m| m.net).collect();
+        let granted = all.iter().filter(|m| !denied(m)).count();
+        let (grant, denial) = (worst(&all, |m| !denied(m)), worst(&all, denied));
+        println!(
+            "| {name} | {granted} of {INSTANCES} | {:.0} | {} | {} |",
+            median(&times),
+            shown(&grant),
+            shown(&denial)
+        );
+        grants.extend(grant);
+        denials.extend(denial);
+    }
+    println!(
+        "\nClimbing from the worst: small changes that make the search no faster are kept, {} seconds for each.",
+        climb.as_secs()
+    );
+    for (name, mut found) in [("grant", grants), ("denial", denials)] {
+        // half of the time from the slowest of four families, the other half from the slowest that this gave
+        found.sort_by(slower);
+        found.truncate(4);
+        let (before, each) = (found[0].net, climb / 2 / found.len() as u32);
+        let (mut steps, mut tops) = (0, vec![]);
+        for from in found {
+            let (tried, top) = climbed(&mut g, from, each);
+            steps += tried;
+            tops.push(top);
+        }
+        let (tried, top) = climbed(&mut g, tops.into_iter().min_by(slower).unwrap(), climb / 2);
+        println!(
+            "Worst {name}: {before:.0}, and after {} changes tried {:.0} ({}).",
+            steps + tried,
+            top.net,
+            described(&top)
+        );
+        let (answer, plain) = typical(3, || top.rules.least(first(20) as u32));
+        if answer != top.answer {
+            stop("the least set is not that of the search over all subsets");
+        }
+        println!("A search over all its 1048576 subsets: {plain:.0}.");
+    }
+}
+
+fn main() {
+    let seconds =
+        std::env::args().nth(1).map_or(10, |s| s.parse().unwrap_or_else(|_| stop("usage: cost [seconds of climbing]")));
+    formulas();
+    least_sets(Duration::from_secs(seconds));
+}

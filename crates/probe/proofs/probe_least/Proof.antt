@@ -1,0 +1,73 @@
+-- `probe_least` meets its contract.
+use mathlib.Core.Path.{_≡_, sym, _∙_, ap}
+use Prim.Native.Nat.{_<_}
+use native.Mathlib.Omega.{arith}
+use borrow.Author.Needs.{needs}
+use Rattle.common.specs.Sets.{member}
+use Rattle.search.specs.declared.Found.{Found}
+use Rattle.justification.specs.Justification.{least}
+use Rattle.justification.specs.Masked.{found}
+use Rattle.probe.specs.Probe.{setNumber, probeLeast}
+use Rattle.probe.proofs.Probed.{loaded-tables, method-refused, method-absent, method-present}
+use Rattle.probe.proofs.probe_least.Statement.{statement}
+use Rattle.probe.proofs.probe_least.Tie as tie
+
+load-requires : tie.Need-load-requires
+load-requires c κs = search needs
+
+returns : tie.Need-returns
+returns c = method-refused _ _ (c .before .before .load .ensures) _ _ (c .if1 .taken)
+
+place-requires : tie.Need-place-requires
+place-requires c κs = search needs
+
+returns-2 : tie.Need-returns-2
+returns-2 c =
+    let p = c .before .before in
+    let e = p .before .before in
+    method-absent _ _ (e .before .before .load .ensures) _ _ (e .if1 .left) (omega (arith, c .if2 .taken, p .place .ensures))
+
+-- what was loaded
+abbrev loaded : tie.Else2 → tie.After-load
+loaded h = h .before .before .before .before .before .before
+
+least-requires : tie.Need-least-requires
+least-requires c κs = (loaded-tables _ _ (loaded c .load .ensures) (c .before .before .before .before .if1 .left), c .if2 .left)
+
+-- what the search found is the answer
+answers : (c : tie.After-least) → let s = loaded (c .before) .before .before in setNumber (found (c .least .result)) ≡ probeLeast (s .args .bundle .now) (s .args .method) (s .args .allowed)
+answers c =
+    let h = c .before in
+    let s = loaded h .before .before in
+    let r = loaded h .load .result .rules in
+    let at : h .before .before .place .result ≡ s .args .method = h .before .before .place .ensures in
+    let there : s .args .method < r .«method_count» = omega (arith, h .if2 .left, at) in
+    (λ j. setNumber (c .least .ensures j))
+    ∙ (λ j. setNumber (least r (at j) (λ p. member p (s .args .allowed))))
+    ∙ method-present _ _ (loaded h .load .ensures) (s .args .method) (s .args .allowed) (h .before .before .before .before .if1 .left) there
+
+enum-known-found : tie.Need-enum-known-found
+enum-known-found c = search needs
+
+enum-told : tie.Need-enum-told
+enum-told c = search needs
+
+returns-3 : tie.Need-returns-3
+returns-3 c = ap (λ (f : Found). setNumber (found f)) (sym (c .before .found .given .1)) ∙ answers (c .before .before .before)
+
+returns-4 : tie.Need-returns-4
+returns-4 c = ap (λ (f : Found). setNumber (found f)) (sym (c .enum-told .given .1)) ∙ answers (c .before .before)
+
+pub probe-least-spec : {M : Type 1} → statement M
+probe-least-spec =
+    tie.close
+    (tie.spec
+    load-requires
+    returns
+    place-requires
+    returns-2
+    least-requires
+    enum-known-found
+    enum-told
+    returns-3
+    returns-4)
