@@ -1,6 +1,5 @@
-mod Marking
+pub mod Marking
 mod Excluding
-mod Named
-mod Asking
+pub mod Asking
 mod Leading
 mod Verdicts

@@ -8,3 +8,4 @@ pub mod OrderFact
 pub mod MaskLaws
 pub mod WalkLaws
 pub mod GuardLaws
+pub mod NamedLaws

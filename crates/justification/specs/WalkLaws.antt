@@ -26,7 +26,7 @@ abbrev pub All : (ℕ → Type 0) → List ℕ → Type 0
 All P [] = Unit {0}
 All P (x ∷ l) = P x × All P l
 
-all-those : (P : ℕ → Type 0) (q : ℕ → Bool) (l : List ℕ) → All P l → All P (those q l)
+pub all-those : (P : ℕ → Type 0) (q : ℕ → Bool) (l : List ℕ) → All P l → All P (those q l)
 all-those P q [] a = tt
 all-those P q (x ∷ l) a = go (q x) (all-those P q l (a .1))
   where
@@ -42,15 +42,15 @@ all-map : (P Q : ℕ → Type 0) (l : List ℕ) → ((x : ℕ) → P x → Q x) 
 all-map P Q [] f a = tt
 all-map P Q (x ∷ l) f a = (f x (a .0), all-map P Q l f (a .1))
 
-all-append : (P : ℕ → Type 0) (l m : List ℕ) → All P l → All P m → All P (l ++ m)
+pub all-append : (P : ℕ → Type 0) (l m : List ℕ) → All P l → All P m → All P (l ++ m)
 all-append P [] m a b = b
 all-append P (x ∷ l) m a b = (a .0, all-append P l m (a .1) b)
 
-every-ext : (p q : ℕ → Bool) (l : List ℕ) → All (λ x. p x ≡ q x) l → every p l ≡ every q l
+pub every-ext : (p q : ℕ → Bool) (l : List ℕ) → All (λ x. p x ≡ q x) l → every p l ≡ every q l
 every-ext p q [] h = refl
 every-ext p q (x ∷ l) h = rw (h .0, every-ext p q l (h .1))
 
-first-ext : (p q : ℕ → Bool) (l : List ℕ) → ((x : ℕ) → p x ≡ q x) → firstOf p l ≡ firstOf q l
+pub first-ext : (p q : ℕ → Bool) (l : List ℕ) → ((x : ℕ) → p x ≡ q x) → firstOf p l ≡ firstOf q l
 first-ext p q [] h = refl
 first-ext p q (x ∷ l) h = rw (h x, first-ext p q l h)
 
@@ -160,10 +160,10 @@ module _ (truth : ℕ → Bool) (r : Record) where
   view m f = cond (known m f) (value m f) (truth f)
 
   -- n takes every formula as m does, and knows what m knows
-  record Same (m n : Memo) : Type 0 where
+  pub record Same (m n : Memo) : Type 0 where
     roomy : Roomy n
     views : (f : ℕ) → view n f ≡ view m f
-    keeps : (f : ℕ) → known m f ≡ true → known n f ≡ true
+    pub keeps : (f : ℕ) → known m f ≡ true → known n f ≡ true
 
   same-self : (m : Memo) → Roomy m → Same m m
   same-self m h = record { roomy = h; views = λ f. refl; keeps = λ f e. e }
@@ -281,14 +281,14 @@ module _ (truth : ℕ → Bool) (r : Record) where
       go false k h ih = rw (ih h) (and-false (view m (formulaOf r p)))
 
   -- ---- eager: after all evaluations the memo's values are what it took the formulas to be
-  all-through : (ps : List ℕ) (m : Memo) → Roomy m → Grounded r ps → Same m (evaluatedAll truth r m ps)
+  pub all-through : (ps : List ℕ) (m : Memo) → Roomy m → Grounded r ps → Same m (evaluatedAll truth r m ps)
   unfolding evaluatedAll
   all-through [] m h g = same-self m h
   all-through (p ∷ ps) m h g =
       let e = evaluates m (formulaOf r p) h (g .0) in
       same-trans (e .same) (all-through ps (evaluated truth m (formulaOf r p)) (e .same .roomy) (g .1))
 
-  all-known : (ps : List ℕ) (m : Memo) → Roomy m → Grounded r ps → All (λ p. known (evaluatedAll truth r m ps) (formulaOf r p) ≡ true) ps
+  pub all-known : (ps : List ℕ) (m : Memo) → Roomy m → Grounded r ps → All (λ p. known (evaluatedAll truth r m ps) (formulaOf r p) ≡ true) ps
   unfolding evaluatedAll
   all-known [] m h g = tt
   all-known (p ∷ ps) m h g =

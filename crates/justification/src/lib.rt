@@ -48,7 +48,7 @@ fn listed(privileges: u64) -> u64
 }
 
 // The set s, with p added where p passes.
-fn marked(s: u32, p: usize, passes: bool) -> u32
+pub fn marked(s: u32, p: usize, passes: bool) -> u32
     requires { ⌜ p < 20 ⌝ }
     ensures { λ r. ⌜ r ≡ cond passes (bitOr s (2 ^ p)) s ⌝ }
 {

@@ -144,6 +144,7 @@ sound-more t k os w s =
 pub record Good (r : Record) : Type 0 where
   pub loads : loadable r ≡ true
   pub memo : r .memo ≡ emptied 0 0
+  pub sized : Sized r
 
 end-good : (t : Reading) → Sound t → atEnd t .number ≡ 0 → Good (atEnd t .rules)
 unfolding atEnd
@@ -159,12 +160,13 @@ end-good t s e = go (eqb (t .last) 0xFF) (circular (rows hierarchy (t .rules))) 
         record {
           loads = loadable-from (t .rules) (s .loads (λ o. let l : 0 ≡ 0xFF = ap (λ (x : Reading). x .last) (sym (s .top o)) ∙ eqb-true _ _ p in omega arith)) (rw (q, u));
           memo = s .memo;
+          sized = s .sized;
         }
 
 -- the blank record, which a refusal hands back, is one of them
 good-blank : Good blank
 unfolding blank circular
-good-blank = record { loads = loadable-from blank blank-loads refl; memo = refl }
+good-blank = record { loads = loadable-from blank blank-loads refl; memo = refl; sized = sized-blank }
 
 read-good : (ls : List Framed) (t : Reading) → Sound t → read t ls .number ≡ 0 → Good (read t ls .rules)
 unfolding read

@@ -10,7 +10,7 @@ use Rattle.policy.specs.Table.{user, edge, formula, principal}
 use Rattle.policy.specs.LoadableLaws.{table-few}
 use Rattle.formula.specs.EvaluationLaws.{setting-holds}
 use Rattle.justification.proofs.Marking.{marks-same}
-use Rattle.justification.proofs.Named.{principal-named}
+use Rattle.justification.specs.NamedLaws.{principal-named}
 use Rattle.justification.proofs.enabled_of.Statement.{statement}
 use Rattle.justification.proofs.enabled_of.Tie as tie
 

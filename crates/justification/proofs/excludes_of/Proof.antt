@@ -5,7 +5,7 @@ use native.Mathlib.Omega.{arith}
 use Rattle.policy.specs.Table.{principal, exclusion}
 use Rattle.policy.specs.LoadableLaws.{table-few}
 use Rattle.justification.proofs.Excluding.{Excludes, excludes-none, excludes-more}
-use Rattle.justification.proofs.Named.{exclusion-named}
+use Rattle.justification.specs.NamedLaws.{exclusion-named}
 use borrow.Author.Needs.{needs}
 use Rattle.justification.proofs.excludes_of.Statement.{statement}
 use Rattle.justification.proofs.excludes_of.Tie as tie

@@ -1,0 +1,147 @@
+-- From the steps of a question to its answer: eager is one least set of the enabled, lazy at most P + 1 searches.
+use Prim.Native.Nat.{ℕ, zero, suc, _+_, _≤_, _<_}
+use mathlib.Core.Path.{_≡_, refl, sym, _∙_, ap}
+use mathlib.Core.Logic.{_≢_}
+use mathlib.Core.Bool.{Bool, true, false, not}
+use mathlib.Core.Option.{Option, none, some}
+use native.Mathlib.Omega.{arith}
+use borrow.Author.Tests.{ne-eqb}
+use Rattle.common.specs.Lists.{below}
+use Rattle.common.specs.BoolLaws.{same-test}
+use Rattle.common.specs.Refusals.{noSet}
+use Rattle.common.specs.Sets.{member}
+use Rattle.common.specs.SetLaws.{member-in, in-member}
+use Rattle.policy.specs.declared.Record.{Record}
+use Rattle.policy.specs.declared.Memo.{Memo}
+use Rattle.policy.specs.Table.{Kind, formula, withEdges, withMemo}
+use Rattle.policy.specs.Loadable.{tableLoads}
+use Rattle.policy.specs.LoadableLaws.{table-few}
+use Rattle.formula.specs.declared.Setting.{Setting}
+use Rattle.formula.specs.Formula.{holds}
+use Rattle.formula.specs.Evaluation.{Sets}
+use Rattle.formula.specs.EvaluationLaws.{setting-holds}
+use Rattle.justification.specs.Justification.{members, candidates, least}
+use Rattle.justification.specs.Predicates.{questionRefusal}
+use Rattle.justification.specs.NamedLaws.{principal-named}
+use Rattle.justification.specs.Parts.{Marks}
+use Rattle.justification.specs.Walk.{value, formulaOf, granted, denied, outcome, evaluatedAll, eagerly, tried, knownFalse, goOn, walk, tryNext, searching}
+use Rattle.justification.specs.WalkLaws.{Roomy, walk-searches}
+use Rattle.access.specs.declared.Tried.{Tried}
+use Rattle.access.specs.Access.{memoFor, truthAt, newly, answered, refused, asked, eager, lazy}
+use Rattle.access.specs.Parts.{trueAt, weighedOf}
+use Rattle.access.specs.AccessLaws.{grounded, least-ext, evaluated-ext, searching-ext}
+
+-- a set of marked principals, as a test
+marks-member : {n s : ℕ} {t : ℕ → Bool} → Marks n t s → (p : ℕ) → p < n → member p s ≡ t p
+marks-member {n} {s} {t} h p l = same-test (member p s) (t p) (λ e. h .only p (member-in e) .1, λ e. in-member (h .all p l e))
+
+-- evaluation in the setting is evaluation afresh
+pub truth-same : (r : Record) (o s : ℕ) (q : Setting) → ((j : Kind) → tableLoads r j ≡ true) → Sets r o s q
+    → (p : ℕ) → p < r .«principal_count» → trueAt q (formulaOf r p) ≡ truthAt r o s (formulaOf r p)
+truth-same r o s q loads made p l =
+    setting-holds r o s q made (formulaOf r p) (q .object) (principal-named r loads p l .0) (table-few r formula (loads formula))
+    ∙ ap (λ (v : ℕ). holds r (formulaOf r p) v o s) (made .object)
+
+module _ (r : Record) (m o s : ℕ) where
+  pub eager-refused : {n : ℕ} → n ≡ questionRefusal r m o s → n ≢ 0 → refused n r ≡ eager r m o s
+  unfolding eager
+  eager-refused e h = sym (rw (ne-eqb (questionRefusal r m o s) 0 (λ z. h (e ∙ z))) (ap (λ (n : ℕ). refused n r) (sym e)))
+
+  pub lazy-refused : {n : ℕ} → n ≡ questionRefusal r m o s → n ≢ 0 → refused n r ≡ lazy r m o s
+  unfolding lazy
+  lazy-refused e h = sym (rw (ne-eqb (questionRefusal r m o s) 0 (λ z. h (e ∙ z))) (ap (λ (n : ℕ). refused n r) (sym e)))
+
+  eager-is : 0 ≡ questionRefusal r m o s
+      → answered r (memoFor (r .memo) o s) (eagerly r m (evaluatedAll (truthAt r o s) r (memoFor (r .memo) o s) (below (r .«principal_count»)))) ≡ eager r m o s
+  unfolding eager
+  eager-is e = λ i. asked r (e i) (answered r (memoFor (r .memo) o s) (eagerly r m (evaluatedAll (truthAt r o s) r (memoFor (r .memo) o s) (below (r .«principal_count»)))))
+
+  lazy-is : 0 ≡ questionRefusal r m o s → answered r (memoFor (r .memo) o s) (walk (truthAt r o s) r (memoFor (r .memo) o s) (candidates r m)) ≡ lazy r m o s
+  unfolding lazy
+  lazy-is e = λ i. asked r (e i) (answered r (memoFor (r .memo) o s) (walk (truthAt r o s) r (memoFor (r .memo) o s) (candidates r m)))
+
+  module _ (loads : (j : Kind) → tableLoads r j ≡ true) (zero-number : 0 ≡ questionRefusal r m o s) (q : Setting) (made : Sets r o s q) {before : Memo} (first : before ≡ memoFor (r .memo) o s) where
+    -- eager: all evaluated, then the least set of those with the value true
+    pub eager-answer : {after : Memo} {enabled : ℕ} {found : Option ℕ} → after ≡ evaluatedAll (trueAt q) r before (below (r .«principal_count»))
+        → Marks (r .«principal_count») (λ p. value after (formulaOf r p)) enabled → found ≡ least r m (λ p. member p enabled) → answered r before (outcome after found) ≡ eager r m o s
+    unfolding eagerly
+    eager-answer {after} {enabled} {found} e marks f =
+        let same : after ≡ evaluatedAll (truthAt r o s) r (memoFor (r .memo) o s) (below (r .«principal_count»)) =
+        e ∙ evaluated-ext (trueAt q) (truthAt r o s) r (truth-same r o s q loads made) before ∙ ap (λ (k : Memo). evaluatedAll (truthAt r o s) r k (below (r .«principal_count»))) first in
+        let chosen : found ≡ least r m (λ p. value after (formulaOf r p)) = f ∙ least-ext r m (λ p. member p enabled) (λ p. value after (formulaOf r p)) (marks-member marks) in
+        (λ i. answered r (first i) (outcome after (chosen i)))
+        ∙ ap (λ (k : Memo). answered r (memoFor (r .memo) o s) (eagerly r m k)) same
+        ∙ eager-is zero-number
+
+    -- lazy: the outcome of at most P + 1 searches
+    pub lazy-answer : Roomy before → answered r before (searching (r .«principal_count» + 1) (trueAt q) r m before) ≡ lazy r m o s
+    lazy-answer roomy =
+        ap (answered r before)
+        (searching-ext (trueAt q) (truthAt r o s) r (truth-same r o s q loads made) (r .«principal_count» + 1) m before
+        ∙ sym (walk-searches (truthAt r o s) r m before (grounded r loads) roomy))
+        ∙ ap (λ (k : Memo). answered r k (walk (truthAt r o s) r k (candidates r m))) first
+        ∙ lazy-is zero-number
+
+-- ---- the answer, with the record as it is left
+
+module _ (r : Record) (before after : Memo) {n : ℕ} (e : n ≡ newly before after) where
+  pub granted-is : (c : ℕ)
+      → record { number = 0; set = c; evaluations = n; rules = withEdges r (r .«edge_count») (r .«edge_labels») (r .«edge_sources») (r .«edge_targets») after } ≡ answered r before (granted c after)
+  unfolding answered withMemo
+  granted-is c = λ i. record { number = 0; set = c; evaluations = e i; rules = withEdges r (r .«edge_count») (r .«edge_labels») (r .«edge_sources») (r .«edge_targets») after }
+
+  pub denied-is : record { number = noSet; set = 0; evaluations = n; rules = withEdges r (r .«edge_count») (r .«edge_labels») (r .«edge_sources») (r .«edge_targets») after } ≡ answered r before (denied after)
+  unfolding answered withMemo
+  denied-is = λ i. record { number = noSet; set = 0; evaluations = e i; rules = withEdges r (r .«edge_count») (r .«edge_labels») (r .«edge_sources») (r .«edge_targets») after }
+
+-- ---- the searches, round by round
+
+module _ (truth : ℕ → Bool) (r : Record) (k : ℕ) (before : Memo) where
+  -- after some rounds: what is left to do, with the memo as it is, comes to what the whole comes to
+  pub record Round (rounds : ℕ) (memo : Memo) : Type 0 where
+    pub fuel : ℕ
+    pub sum : fuel + rounds ≡ r .«principal_count» + 1
+    pub same : searching fuel truth r k memo ≡ searching (r .«principal_count» + 1) truth r k before
+
+  pub round-first : Round 0 before
+  round-first = record { fuel = r .«principal_count» + 1; sum = omega arith; same = refl }
+
+  module _ {rounds : ℕ} {memo : Memo} (more : rounds ≤ r .«principal_count») (h : Round rounds memo) {allowed : ℕ} (marks : Marks (r .«principal_count») (λ p. not (knownFalse r memo p)) allowed) {found : Option ℕ}
+      (is : found ≡ least r k (λ p. member p allowed)) where
+    next-is : found ≡ least r k (λ p. not (knownFalse r memo p))
+    next-is = is ∙ least-ext r k (λ p. member p allowed) (λ p. not (knownFalse r memo p)) (marks-member marks)
+
+    go : (n : ℕ) → n + rounds ≡ r .«principal_count» + 1 → searching n truth r k memo ≡ searching (r .«principal_count» + 1) truth r k before
+        → (l : ℕ) × (l + (rounds + 1) ≡ r .«principal_count» + 1) × (tryNext truth r memo found (searching l truth r k) ≡ searching (r .«principal_count» + 1) truth r k before)
+    unfolding searching
+    go zero e d = absurd (omega arith)
+    go (suc l) e d = (l, omega arith, ap (λ (x : Option ℕ). tryNext truth r memo x (searching l truth r k)) next-is ∙ d)
+
+    pub round-denied : found ≡ none → denied memo ≡ searching (r .«principal_count» + 1) truth r k before
+    round-denied e =
+        let (l, u, d) = go (h .fuel) (h .sum) (h .same) in
+        ap (λ (x : Option ℕ). tryNext truth r memo x (searching l truth r k)) (sym e) ∙ d
+
+    module _ {c : ℕ} (e : found ≡ some c) (t : Tried) (w : weighedOf t ≡ tried truth r memo (members r c)) where
+      weighed-next : (l : ℕ) → goOn c (weighedOf t) (searching l truth r k) ≡ tryNext truth r memo found (searching l truth r k)
+      weighed-next l = ap (λ x. goOn c x (searching l truth r k)) w ∙ ap (λ (x : Option ℕ). tryNext truth r memo x (searching l truth r k)) (sym e)
+
+      pub round-granted : t .survives ≡ true → granted c (t .memo) ≡ searching (r .«principal_count» + 1) truth r k before
+      round-granted v =
+          let (l, u, d) = go (h .fuel) (h .sum) (h .same) in
+          sym (sym d ∙ sym (weighed-next l) ∙ rw v refl)
+
+      pub round-ended : t .survives ≡ false → Round (rounds + 1) (t .memo)
+      round-ended v =
+          let (l, u, d) = go (h .fuel) (h .sum) (h .same) in
+          let on : goOn c (weighedOf t) (searching l truth r k) ≡ searching l truth r k (t .memo) = rw v refl in
+          record { fuel = l; sum = u; same = sym on ∙ weighed-next l ∙ d }
+
+  pub round-last : {rounds : ℕ} {memo : Memo} → r .«principal_count» < rounds → Round rounds memo → denied memo ≡ searching (r .«principal_count» + 1) truth r k before
+  unfolding searching
+  round-last {rounds} {memo} l h = end (h .fuel) (h .sum) (h .same)
+    where
+      end : (n : ℕ) → n + rounds ≡ r .«principal_count» + 1 → searching n truth r k memo ≡ searching (r .«principal_count» + 1) truth r k before
+          → denied memo ≡ searching (r .«principal_count» + 1) truth r k before
+      end zero e d = d
+      end (suc n) e d = absurd (omega arith)

@@ -1,0 +1,3 @@
+mod Memos
+mod Weighing
+mod Answers

@@ -1,0 +1,41 @@
+-- `memo_for` meets its contract.
+use Prim.Native.Nat.{ℕ}
+use mathlib.Core.Path.{_≡_, sym, _∙_, ap, subst}
+use mathlib.Core.Bool.{Bool}
+use mathlib.Core.List.{List, map, map-id}
+use lib.ListN.{length}
+use mir.Val.{Val}
+use denote.Shadow.{shadow}
+use denote.Struct.Field.{bool-field, array-field}
+use Rattle.justification.specs.WalkLaws.{Roomy}
+use Rattle.access.specs.AccessLaws.{roomy-for}
+use Rattle.access.proofs.Memos.{same-pair, other-object, other-requestor}
+use borrow.Author.Needs.{needs}
+use Rattle.access.proofs.memo_for.Statement.{statement}
+use Rattle.access.proofs.memo_for.Tie as tie
+
+emptied-requires : tie.Need-emptied-requires
+emptied-requires c κs = search needs
+
+-- a memo has a place for each formula, by its type
+length-of : (n : ℕ) (c : List Bool) (vs : List Val) → shadow (array-field bool-field n .row .own (map (λ (v : Bool). v) c) vs) → length c ≡ n
+length-of n c vs p = ap length (sym (map-id c)) ∙ p .1 .0 .1
+
+roomy : (s : tie.Start) → Roomy (s .args .memo)
+roomy s = let f = s .good .0 .1 .1 .1 .1 in record { knowns = length-of 64 (s .args .memo .known) _ (f .0); values = length-of 64 (s .args .memo .value) _ (f .1 .0) }
+
+returns : tie.Need-returns
+returns c = let e = c .emptied .ensures ∙ other-object _ _ _ (c .before .if1 .taken) in (e, subst Roomy (sym e) (roomy-for _ _ _ (roomy (c .before .before .before))))
+
+emptied-requires-2 : tie.Need-emptied-requires-2
+emptied-requires-2 c κs = search needs
+
+returns-2 : tie.Need-returns-2
+returns-2 c = let e = c .emptied2 .ensures ∙ other-requestor _ _ _ (c .before .if2 .taken) in (e, subst Roomy (sym e) (roomy-for _ _ _ (roomy (c .before .before .before .before .before))))
+
+returns-3 : tie.Need-returns-3
+returns-3 c = (same-pair _ _ _ (c .before .before .if1 .left) (c .if2 .left), roomy (c .before .before .before .before))
+
+pub memo-for-spec : {M : Type 1} → statement M
+memo-for-spec =
+    tie.close (tie.spec emptied-requires returns emptied-requires-2 returns-2 returns-3)

@@ -1,0 +1,49 @@
+-- The eager and the lazy question (document 01, "Questions and edits"; refusals 14 to 17 and 19), and what each returns and leaves.
+use Prim.Native.Nat.{ℕ}
+use mathlib.Core.Bool.{Bool, not, cond, _&&_}
+use lib.ListN.{length}
+use lib.Dec.{eqb}
+use Rattle.common.specs.Lists.{those, below}
+use Rattle.common.specs.Refusals.{noSet}
+use Rattle.policy.specs.declared.Record.{Record}
+use Rattle.policy.specs.declared.Memo.{Memo}
+use Rattle.policy.specs.Table.{emptied, withMemo}
+use Rattle.formula.specs.Formula.{holds}
+use Rattle.justification.specs.Justification.{candidates}
+use Rattle.justification.specs.Predicates.{questionRefusal}
+use Rattle.justification.specs.Walk.{known, Outcome, granted, denied, evaluatedAll, eagerly, walk}
+use Rattle.access.specs.declared.Answer.{Answer}
+
+-- the memo for a question: if its pair differs, it is first emptied and takes the new pair
+unfoldable pub memoFor : Memo → ℕ → ℕ → Memo
+memoFor m o s = cond (eqb (m .object) o && eqb (m .requestor) s) m (emptied o s)
+
+-- what a formula comes to, evaluated afresh at the object
+abbrev pub truthAt : Record → ℕ → ℕ → ℕ → Bool
+truthAt r o s f = holds r f o o s
+
+-- the evaluations: the formulas known after and not known before
+unfoldable pub newly : Memo → Memo → ℕ
+newly before after = length (those (λ f. known after f && not (known before f)) (below 64))
+
+-- granted: the set. Denied: 17 and the empty set. Both with the evaluations, and the record with the new memo
+unfoldable pub answered : Record → Memo → Outcome → Answer
+answered r before (granted c after) = record { number = 0; set = c; evaluations = newly before after; rules = withMemo r after }
+answered r before (denied after) = record { number = noSet; set = 0; evaluations = newly before after; rules = withMemo r after }
+
+-- refused before that, with 19, 14, 15 or 16: the empty set, 0, and the record
+abbrev pub refused : ℕ → Record → Answer
+refused n r = record { number = n; set = 0; evaluations = 0; rules = r }
+
+abbrev pub asked : Record → ℕ → Answer → Answer
+asked r n answer = cond (eqb n 0) answer (refused n r)
+
+-- eager: each principal in rising number has its formula evaluated unless known; then the least set of enabled principals
+unfoldable pub eager : Record → ℕ → ℕ → ℕ → Answer
+eager r m o s =
+    asked r (questionRefusal r m o s)
+    (answered r (memoFor (r .memo) o s) (eagerly r m (evaluatedAll (truthAt r o s) r (memoFor (r .memo) o s) (below (r .«principal_count»)))))
+
+-- lazy: the candidates from all principals, least first; the first that survives
+unfoldable pub lazy : Record → ℕ → ℕ → ℕ → Answer
+lazy r m o s = asked r (questionRefusal r m o s) (answered r (memoFor (r .memo) o s) (walk (truthAt r o s) r (memoFor (r .memo) o s) (candidates r m)))

@@ -1,0 +1,310 @@
+-- The two questions answer the same, lazy by no more evaluations; what they come to rests on the truth of the principals' formulas alone.
+use Prim.Native.Nat.{ℕ, zero, suc, _+_, _≤_, _<_}
+use mathlib.Core.Path.{_≡_, refl, sym, _∙_, ap}
+use mathlib.Core.Logic.{_≢_}
+use mathlib.Core.Bool.{Bool, true, false, false≢true, not, cond, _&&_}
+use mathlib.Core.List.{List, [], _∷_, _++_}
+use mathlib.Core.Option.{Option, none, some}
+use native.Mathlib.Omega.{arith}
+use native.Mathlib.Numerals.{add-one}
+use native.Mathlib.Decide.{ℕ-discrete}
+use lib.ListN.{length}
+use lib.Dec.{eqb}
+use lib.Seq.{getD-set-other}
+use borrow.Author.Tests.{eqb-true, eqb-false, ne-eqb}
+use Rattle.common.specs.Lists.{any, every, those, below}
+use Rattle.common.specs.BoolLaws.{and-cases, and-both}
+use Rattle.common.specs.Refusals.{notLoadable}
+use Rattle.common.specs.Sets.{member}
+use Rattle.policy.specs.declared.Record.{Record}
+use Rattle.policy.specs.declared.Memo.{Memo}
+use Rattle.policy.specs.Table.{Kind, formula, emptied}
+use Rattle.policy.specs.Loadable.{tableLoads, loadable}
+use Rattle.policy.specs.LoadableLaws.{table-few, loadable-table}
+use Rattle.justification.specs.Justification.{members, candidates, least}
+use Rattle.justification.specs.Predicates.{questionRefusal}
+use Rattle.justification.specs.Walk.{known, value, noted, evaluated, formulaOf, Outcome, granted, denied, outcome, chosen, evaluatedAll, eagerly}
+use Rattle.justification.specs.Walk.{Weighed, survives, ends, tried, knownFalse, weighed, goOn, walk, tryNext, searching}
+use Rattle.justification.specs.WalkLaws.{All, all-those, all-append, every-ext, first-ext, Roomy, Grounded, all-through, all-known, agree}
+use Rattle.justification.specs.NamedLaws.{principal-named}
+use Rattle.access.specs.declared.Answer.{Answer}
+use Rattle.access.specs.Access.{memoFor, truthAt, newly, answered, refused, asked, eager, lazy}
+
+-- ---- lists
+
+pub all-below : (P : ℕ → Type 0) (n : ℕ) → ((i : ℕ) → i < n → P i) → All P (below n)
+all-below P zero h = tt
+all-below P (suc n) h = all-append P (below n) (n ∷ []) (all-below P n (λ i l. h i (omega arith))) (h n (omega arith), tt)
+
+-- no more pass a test that is passed by fewer
+fewer-those : (p q : ℕ → Bool) → ((x : ℕ) → p x ≡ true → q x ≡ true) → (l : List ℕ) → length (those p l) ≤ length (those q l)
+fewer-those p q more [] = omega arith
+fewer-those p q more (x ∷ l) = go (p x) (q x) (more x) (fewer-those p q more l)
+  where
+    go : (a b : Bool) → (a ≡ true → b ≡ true) → length (those p l) ≤ length (those q l)
+        → length (cond a (x ∷ those p l) (those p l)) ≤ length (cond b (x ∷ those q l) (those q l))
+    go true true f h = omega arith
+    go true false f h = absurd (false≢true (f refl))
+    go false true f h = omega arith
+    go false false f h = h
+
+-- the least set depends only on which principals pass
+pub least-all : (r : Record) (k : ℕ) (a b : ℕ → Bool) → All (λ p. a p ≡ b p) (below (r .«principal_count»)) → least r k a ≡ least r k b
+unfolding least
+least-all r k a b h =
+    first-ext (λ c. every a (members r c)) (λ c. every b (members r c)) (candidates r k)
+    (λ c. every-ext a b (members r c) (all-those (λ p. a p ≡ b p) (λ p. member p c) (below (r .«principal_count»)) h))
+
+pub least-ext : (r : Record) (k : ℕ) (a b : ℕ → Bool) → ((p : ℕ) → p < r .«principal_count» → a p ≡ b p) → least r k a ≡ least r k b
+least-ext r k a b h = least-all r k a b (all-below (λ p. a p ≡ b p) (r .«principal_count») h)
+
+-- ---- the memo
+
+-- every principal of a record whose tables load names a formula that has a place
+pub grounded : (r : Record) → ((j : Kind) → tableLoads r j ≡ true) → Grounded r (below (r .«principal_count»))
+grounded r loads =
+    all-below (λ p. formulaOf r p < 64) (r .«principal_count»)
+    (λ p l. let (f, d) = principal-named r loads p l in let few = table-few r formula (loads formula) in omega arith)
+
+pub roomy-for : (m : Memo) (o s : ℕ) → Roomy m → Roomy (memoFor m o s)
+unfolding memoFor emptied
+roomy-for m o s h = go (eqb (m .object) o && eqb (m .requestor) s)
+  where
+    go : (b : Bool) → Roomy (cond b m (emptied o s))
+    go true = h
+    go false = record { knowns = refl; values = refl }
+
+-- one principal more, as a loop goes
+pub evaluated-more : (truth : ℕ → Bool) (r : Record) (m : Memo) (n : ℕ)
+    → evaluatedAll truth r m (below (n + 1)) ≡ evaluated truth (evaluatedAll truth r m (below n)) (formulaOf r n)
+unfolding evaluatedAll
+evaluated-more truth r m n = rw add-one (go m (below n))
+  where
+    go : (k : Memo) (l : List ℕ) → evaluatedAll truth r k (l ++ (n ∷ [])) ≡ evaluated truth (evaluatedAll truth r k l) (formulaOf r n)
+    go k [] = refl
+    go k (p ∷ l) = go (evaluated truth k (formulaOf r p)) l
+
+-- ---- truth matters only at the principals' formulas
+
+module _ (t u : ℕ → Bool) (r : Record) where
+  -- both say the same of a principal's formula
+  abbrev AtOne : ℕ → Type 0
+  AtOne p = t (formulaOf r p) ≡ u (formulaOf r p)
+
+  one-ext : (m : Memo) (f : ℕ) → t f ≡ u f → evaluated t m f ≡ evaluated u m f
+  unfolding evaluated
+  one-ext m f e = ap (λ (b : Bool). cond (known m f) m (noted m f b)) e
+
+  list-evaluated-ext : (ps : List ℕ) (m : Memo) → All AtOne ps → evaluatedAll t r m ps ≡ evaluatedAll u r m ps
+  unfolding evaluatedAll
+  list-evaluated-ext [] m a = refl
+  list-evaluated-ext (p ∷ ps) m a = rw (one-ext m (formulaOf r p) (a .0)) (list-evaluated-ext ps (evaluated u m (formulaOf r p)) (a .1))
+
+  list-tried-ext : (ps : List ℕ) (m : Memo) → All AtOne ps → tried t r m ps ≡ tried u r m ps
+  unfolding tried
+  list-tried-ext [] m a = refl
+  list-tried-ext (p ∷ ps) m a =
+      rw (one-ext m (formulaOf r p) (a .0))
+      (ap (λ (w : Weighed). cond (value n (formulaOf r p)) w (ends n)) (list-tried-ext ps n (a .1)))
+    where
+      n : Memo
+      n = evaluated u m (formulaOf r p)
+
+  module _ (same : (p : ℕ) → p < r .«principal_count» → t (formulaOf r p) ≡ u (formulaOf r p)) where
+    pub evaluated-ext : (m : Memo) → evaluatedAll t r m (below (r .«principal_count»)) ≡ evaluatedAll u r m (below (r .«principal_count»))
+    evaluated-ext m = list-evaluated-ext (below (r .«principal_count»)) m (all-below AtOne (r .«principal_count») same)
+
+    pub tried-ext : (m : Memo) (c : ℕ) → tried t r m (members r c) ≡ tried u r m (members r c)
+    tried-ext m c =
+        list-tried-ext (members r c) m
+        (all-those AtOne (λ p. member p c) (below (r .«principal_count»)) (all-below AtOne (r .«principal_count») same))
+
+    pub searching-ext : (n k : ℕ) (m : Memo) → searching n t r k m ≡ searching n u r k m
+    unfolding searching
+    searching-ext zero k m = refl
+    searching-ext (suc n) k m = go (least r k (λ p. not (knownFalse r m p))) (searching-ext n k)
+      where
+        go : (o : Option ℕ) → ((x : Memo) → searching n t r k x ≡ searching n u r k x)
+            → tryNext t r m o (searching n t r k) ≡ tryNext u r m o (searching n u r k)
+        go none ih = refl
+        go (some c) ih = λ j. goOn c (tried-ext m c j) (λ x. ih x j)
+
+-- ---- both answer the same
+
+pub record Alike (a b : Answer) : Type 0 where
+  pub number : a .number ≡ b .number
+  pub set : a .set ≡ b .set
+
+answers : (r : Record) (k : Memo) (a b : Outcome) → chosen a ≡ chosen b → Alike (answered r k a) (answered r k b)
+unfolding answered
+answers r k (granted c m) (granted d n) e = record { number = refl; set = cc }
+answers r k (granted c m) (denied n) e = let z : _≡_ {A = ℕ} 0 1 = cc in absurd (omega arith)
+answers r k (denied m) (granted d n) e = let z : _≡_ {A = ℕ} 0 1 = cc in absurd (omega arith)
+answers r k (denied m) (denied n) e = record { number = refl; set = refl }
+
+either-way : (r : Record) (n : ℕ) (x y : Answer) → Alike x y → Alike (asked r n x) (asked r n y)
+either-way r n x y h = go (eqb n 0)
+  where
+    go : (b : Bool)
+        → Alike (cond b x (record { number = n; set = 0; evaluations = 0; rules = r })) (cond b y (record { number = n; set = 0; evaluations = 0; rules = r }))
+    go true = h
+    go false = record { number = refl; set = refl }
+
+pub same-answer : (r : Record) (m o s : ℕ) → Grounded r (below (r .«principal_count»)) → Roomy (r .memo) → Alike (eager r m o s) (lazy r m o s)
+unfolding eager lazy
+same-answer r m o s all h =
+    either-way r (questionRefusal r m o s) _ _
+    (answers r before (eagerly r m (evaluatedAll (truthAt r o s) r before (below (r .«principal_count»)))) (walk (truthAt r o s) r before (candidates r m))
+    (agree (truthAt r o s) r m before all (roomy-for (r .memo) o s h)))
+  where
+    before : Memo
+    before = memoFor (r .memo) o s
+
+-- ---- lazy evaluates no more than eager
+
+-- the memo that is left
+abbrev pub left : Outcome → Memo
+left (granted c m) = m
+left (denied m) = m
+
+abbrev pub weighedLeft : Weighed → Memo
+weighedLeft (survives m) = m
+weighedLeft (ends m) = m
+
+module _ (q : ℕ → Bool) where
+  -- only formulas that pass q are known
+  abbrev Within : Memo → Type 0
+  Within m = (f : ℕ) → known m f ≡ true → q f ≡ true
+
+  module _ (truth : ℕ → Bool) (r : Record) where
+    evaluated-within : (m : Memo) (f : ℕ) → q f ≡ true → Within m → Within (evaluated truth m f)
+    unfolding evaluated
+    evaluated-within m f e h g = go (known m f) (ℕ-discrete g f)
+      where
+        go : (b : Bool) → Dec (g ≡ f) → known (cond b m (noted m f (truth f))) g ≡ true → q g ≡ true
+        go true d k = h g k
+        go false (yes i) k = ap q i ∙ e
+        go false (no i) k = h g (sym (getD-set-other (m .known) f g true false i) ∙ k)
+
+    tried-within : (ps : List ℕ) (m : Memo) → All (λ p. q (formulaOf r p) ≡ true) ps → Within m → Within (weighedLeft (tried truth r m ps))
+    unfolding tried
+    tried-within [] m a h = h
+    tried-within (p ∷ ps) m a h = go (value n (formulaOf r p)) (tried-within ps n (a .1) known-all)
+      where
+        n : Memo
+        n = evaluated truth m (formulaOf r p)
+
+        known-all : Within n
+        known-all = evaluated-within m (formulaOf r p) (a .0) h
+
+        go : (b : Bool) → Within (weighedLeft (tried truth r n ps)) → Within (weighedLeft (cond b (tried truth r n ps) (ends n)))
+        go true w = w
+        go false w = known-all
+
+    weighed-within : (ps : List ℕ) (m : Memo) → All (λ p. q (formulaOf r p) ≡ true) ps → Within m → Within (weighedLeft (weighed truth r m ps))
+    unfolding weighed
+    weighed-within ps m a h = go (any (knownFalse r m) ps)
+      where
+        go : (b : Bool) → Within (weighedLeft (cond b (ends m) (tried truth r m ps)))
+        go true = h
+        go false = tried-within ps m a h
+
+    walk-within : (cs : List ℕ) (m : Memo) → All (λ p. q (formulaOf r p) ≡ true) (below (r .«principal_count»)) → Within m → Within (left (walk truth r m cs))
+    unfolding walk
+    walk-within [] m a h = h
+    walk-within (c ∷ cs) m a h =
+        go (weighed truth r m (members r c))
+        (weighed-within (members r c) m (all-those (λ p. q (formulaOf r p) ≡ true) (λ p. member p c) (below (r .«principal_count»)) a) h)
+        (λ n. walk-within cs n a)
+      where
+        go : (w : Weighed) → Within (weighedLeft w) → ((n : Memo) → Within n → Within (left (walk truth r n cs)))
+            → Within (left (goOn c w (λ after. walk truth r after cs)))
+        go (survives n) k ih = k
+        go (ends n) k ih = ih n k
+
+left-outcome : (n : Memo) (o : Option ℕ) → left (outcome n o) ≡ n
+left-outcome n none = refl
+left-outcome n (some c) = refl
+
+pub left-eagerly : (r : Record) (k : ℕ) (n : Memo) → left (eagerly r k n) ≡ n
+unfolding eagerly
+left-eagerly r k n = left-outcome n (least r k (λ p. value n (formulaOf r p)))
+
+counted : (r : Record) (k : Memo) (a : Outcome) → answered r k a .evaluations ≡ newly k (left a)
+unfolding answered
+counted r k (granted c m) = refl
+counted r k (denied m) = refl
+
+newly-fewer : (k m n : Memo) → ((f : ℕ) → known m f ≡ true → known n f ≡ true) → newly k m ≤ newly k n
+unfolding newly
+newly-fewer k m n h =
+    fewer-those (λ f. known m f && not (known k f)) (λ f. known n f && not (known k f))
+    (λ f e. let (a, b) = and-cases (known m f) (not (known k f)) e in and-both (known n f) (not (known k f)) (h f a) b)
+    (below 64)
+
+either-count : (r : Record) (n : ℕ) (x y : Answer) → x .evaluations ≤ y .evaluations → asked r n x .evaluations ≤ asked r n y .evaluations
+either-count r n x y h = go (eqb n 0)
+  where
+    go : (b : Bool)
+        → cond b x (record { number = n; set = 0; evaluations = 0; rules = r }) .evaluations
+        ≤ cond b y (record { number = n; set = 0; evaluations = 0; rules = r }) .evaluations
+    go true = h
+    go false = omega arith
+
+pub fewer-evaluations : (r : Record) (m o s : ℕ) → Grounded r (below (r .«principal_count»)) → Roomy (r .memo)
+    → lazy r m o s .evaluations ≤ eager r m o s .evaluations
+unfolding eager lazy
+fewer-evaluations r m o s all h =
+    either-count r (questionRefusal r m o s) _ _
+    (rw (counted r before (walk truth r before (candidates r m)), counted r before (eagerly r m after), left-eagerly r m after)
+    (newly-fewer before (left (walk truth r before (candidates r m))) after
+    (walk-within (known after) truth r (candidates r m) before (all-known truth r (below (r .«principal_count»)) before roomy all)
+    (all-through truth r (below (r .«principal_count»)) before roomy all .keeps))))
+  where
+    truth : ℕ → Bool
+    truth = truthAt r o s
+
+    before : Memo
+    before = memoFor (r .memo) o s
+
+    roomy : Roomy before
+    roomy = roomy-for (r .memo) o s h
+
+    after : Memo
+    after = evaluatedAll truth r before (below (r .«principal_count»))
+
+-- ---- of every record (the memo's type says that it is `Roomy`)
+
+loads-when : (r : Record) (m o s : ℕ) → questionRefusal r m o s ≡ 0 → loadable r ≡ true
+unfolding questionRefusal
+loads-when r m o s = go (loadable r) refl
+  where
+    go : (b : Bool) → loadable r ≡ b → questionRefusal r m o s ≡ 0 → loadable r ≡ true
+    go true e z = e
+    go false e z = let x : notLoadable ≡ 0 = sym (rw e refl) ∙ z in absurd (omega arith)
+
+module _ (r : Record) (m o s : ℕ) (room : Roomy (r .memo)) where
+  refused-both : questionRefusal r m o s ≢ 0 → (eager r m o s ≡ refused (questionRefusal r m o s) r) × (lazy r m o s ≡ refused (questionRefusal r m o s) r)
+  unfolding eager lazy
+  refused-both h = (rw (ne-eqb (questionRefusal r m o s) 0 h) refl, rw (ne-eqb (questionRefusal r m o s) 0 h) refl)
+
+  -- FROM EQUAL RECORDS both forms return the same number and set
+  pub same-always : Alike (eager r m o s) (lazy r m o s)
+  same-always = go (eqb (questionRefusal r m o s) 0) refl
+    where
+      go : (b : Bool) → eqb (questionRefusal r m o s) 0 ≡ b → Alike (eager r m o s) (lazy r m o s)
+      go true e = same-answer r m o s (grounded r (loadable-table r (loads-when r m o s (eqb-true (questionRefusal r m o s) 0 e)))) room
+      go false e =
+          let (x, y) = refused-both (eqb-false (questionRefusal r m o s) 0 e) in
+          record { number = ap (λ (a : Answer). a .number) (x ∙ sym y); set = ap (λ (a : Answer). a .set) (x ∙ sym y) }
+
+  -- and the lazy form at most as many evaluations
+  pub lazy-at-most : lazy r m o s .evaluations ≤ eager r m o s .evaluations
+  lazy-at-most = go (eqb (questionRefusal r m o s) 0) refl
+    where
+      go : (b : Bool) → eqb (questionRefusal r m o s) 0 ≡ b → lazy r m o s .evaluations ≤ eager r m o s .evaluations
+      go true e = fewer-evaluations r m o s (grounded r (loadable-table r (loads-when r m o s (eqb-true (questionRefusal r m o s) 0 e)))) room
+      go false e =
+          let (x, y) = refused-both (eqb-false (questionRefusal r m o s) 0 e) in
+          let u : lazy r m o s .evaluations ≡ eager r m o s .evaluations = ap (λ (a : Answer). a .evaluations) (y ∙ sym x) in
+          omega arith

@@ -1,0 +1,107 @@
+-- The edge book (document 01, "The edge book"), and the engine beside it, over any list of calls.
+use Prim.Native.Nat.{ℕ}
+use mathlib.Core.Bool.{Bool, not, cond}
+use mathlib.Core.List.{List, [], _∷_}
+use mathlib.Core.Option.{Option, none, some}
+use lib.ListN.{length}
+use lib.Dec.{leb, eqb}
+use Rattle.common.specs.Lists.{any, those, same}
+use Rattle.common.specs.Causes.{cause, first}
+use Rattle.common.specs.Refusals.{edgeOutOfRange, edgePresent, edgeAbsent, edgesFull, noMethod, noObject, notUser, noSet}
+use Rattle.rows.specs.Checks.{edgeInRange}
+use Rattle.policy.specs.declared.Record.{Record}
+use Rattle.policy.specs.declared.Edited.{Edited}
+use Rattle.policy.specs.Edits.{added, removed}
+use Rattle.formula.specs.Formula.{isUser, holdsOn}
+use Rattle.justification.specs.Justification.{least}
+use Rattle.justification.specs.Walk.{formulaOf}
+use Rattle.access.specs.declared.Answer.{Answer}
+use Rattle.access.specs.Access.{eager, lazy}
+
+-- a call's kind and its arguments other than the record
+pub data Call : Type 0 where
+  add remove : ℕ → ℕ → ℕ → Call
+  askEagerly askLazily : ℕ → ℕ → ℕ → Call
+
+-- what a call answers: its number, and the set (empty for an edit)
+pub record Reply : Type 0 where
+  pub number : ℕ
+  pub set : ℕ
+
+abbrev pub plain : ℕ → Reply
+plain n = record { number = n; set = 0 }
+
+-- ---- the book: a set of edges (label, from, to), beside the bundle's record b, of which all but the edges stays
+
+abbrev pub Book : Type 0
+Book = List (List ℕ)
+
+abbrev pub has : Book → List ℕ → Bool
+has book e = any (same e) book
+
+-- add: 10 the label is above 15 or an object isn't below N; 11 the edge is in the book; 13 the book has 512 edges
+abbrev pub addRefusal : Record → Book → ℕ → ℕ → ℕ → ℕ
+addRefusal b book l x y =
+    first (cause edgeOutOfRange (not (edgeInRange (b .objects) l x y)) ∷ cause edgePresent (has book (l ∷ x ∷ y ∷ [])) ∷ cause edgesFull (leb 512 (length book)) ∷ [])
+
+-- remove: 10; 12 the edge isn't in the book
+abbrev pub removeRefusal : Record → Book → ℕ → ℕ → ℕ → ℕ
+removeRefusal b book l x y = first (cause edgeOutOfRange (not (edgeInRange (b .objects) l x y)) ∷ cause edgeAbsent (not (has book (l ∷ x ∷ y ∷ []))) ∷ [])
+
+abbrev pub askRefusal : Record → ℕ → ℕ → ℕ → ℕ
+askRefusal b m o s = first (cause noMethod (leb (b .«method_count») m) ∷ cause noObject (leb (b .objects) o) ∷ cause notUser (not (isUser b s)) ∷ [])
+
+-- with none denied: 17, empty set; otherwise granted: 0 and the least of them
+abbrev pub verdict : Option ℕ → Reply
+verdict none = plain noSet
+verdict (some c) = record { number = 0; set = c }
+
+-- principal p is enabled in the book's graph, its formula evaluated afresh
+abbrev pub enabledIn : Record → Book → ℕ → ℕ → ℕ → Bool
+enabledIn b book o s p = holdsOn b book (formulaOf b p) o o s
+
+-- the least consistent set of principals enabled in the book's graph that meets the guard
+abbrev pub ask : Record → Book → ℕ → ℕ → ℕ → Reply
+ask b book m o s = cond (eqb (askRefusal b m o s) 0) (verdict (least b m (enabledIn b book o s))) (plain (askRefusal b m o s))
+
+-- the edge goes in, or out, unless the edit is refused; a question leaves the book
+unfoldable pub booked : Record → Book → Call → Book
+booked b book (add l x y) = cond (eqb (addRefusal b book l x y) 0) ((l ∷ x ∷ y ∷ []) ∷ book) book
+booked b book (remove l x y) = cond (eqb (removeRefusal b book l x y) 0) (those (λ e. not (same (l ∷ x ∷ y ∷ []) e)) book) book
+booked b book (askEagerly m o s) = book
+booked b book (askLazily m o s) = book
+
+unfoldable pub bookReply : Record → Book → Call → Reply
+bookReply b book (add l x y) = plain (addRefusal b book l x y)
+bookReply b book (remove l x y) = plain (removeRefusal b book l x y)
+bookReply b book (askEagerly m o s) = ask b book m o s
+bookReply b book (askLazily m o s) = ask b book m o s
+
+-- the book after a list of calls
+unfoldable pub bookAfter : Record → Book → List Call → Book
+bookAfter b book [] = book
+bookAfter b book (c ∷ cs) = bookAfter b (booked b book c) cs
+
+-- ---- the engine: each call goes to the record that the call before it left
+
+abbrev pub ofEdit : Edited → Reply
+ofEdit a = plain (a .number)
+
+abbrev pub ofAnswer : Answer → Reply
+ofAnswer a = record { number = a .number; set = a .set }
+
+unfoldable pub engineLeaves : Record → Call → Record
+engineLeaves r (add l x y) = added r l x y .rules
+engineLeaves r (remove l x y) = removed r l x y .rules
+engineLeaves r (askEagerly m o s) = eager r m o s .rules
+engineLeaves r (askLazily m o s) = lazy r m o s .rules
+
+unfoldable pub engineReply : Record → Call → Reply
+engineReply r (add l x y) = ofEdit (added r l x y)
+engineReply r (remove l x y) = ofEdit (removed r l x y)
+engineReply r (askEagerly m o s) = ofAnswer (eager r m o s)
+engineReply r (askLazily m o s) = ofAnswer (lazy r m o s)
+
+unfoldable pub engineAfter : Record → List Call → Record
+engineAfter r [] = r
+engineAfter r (c ∷ cs) = engineAfter (engineLeaves r c) cs

@@ -1,0 +1,71 @@
+-- Demand 3, word by word. A record just loaded from a bundle, and any list of edge additions, edge removals, eager and lazy questions, refused ones included:
+-- each call gets the record that the calls before it left. Beside the engine goes the edge book, which is given the bundle's record and each call's kind and
+-- arguments, and nothing that the engine answers or holds.
+use Prim.Native.Nat.{ℕ, _^_, _<_}
+use mathlib.Core.Path.{_≡_}
+use mathlib.Core.Logic.{_↔_, _≢_}
+use mathlib.Core.Bool.{true}
+use mathlib.Core.List.{List, [], _∷_}
+use Rattle.common.specs.Refusals.{noSet}
+use Rattle.common.specs.Sets.{In}
+use Rattle.policy.specs.declared.Record.{Record}
+use Rattle.policy.specs.Table.{edge, rows}
+use Rattle.policy.specs.Edits.{added, removed}
+use Rattle.formula.specs.Formula.{isUser}
+use Rattle.search.specs.Search.{Before}
+use Rattle.justification.specs.Justification.{members, meets, consistent}
+use Rattle.reading.specs.Loading.{load}
+use Rattle.access.specs.declared.Answer.{Answer}
+use Rattle.access.specs.Access.{eager, lazy}
+use Rattle.history.specs.Book.{Call, add, remove, askEagerly, askLazily, Book, has, enabledIn, booked, engineLeaves}
+
+-- the book changes: some edge is in the one and not in the other
+abbrev pub Changes : Book → Book → Type 0
+Changes before after = (e : List ℕ) × (has before e ≢ has after e)
+
+-- "each edit is accepted exactly when it changes the documents' edge book"; a refused one changes nothing
+pub record EditHolds (before after : Book) (number : ℕ) (r left : Record) : Type 0 where
+  pub accepted : (number ≡ 0) ↔ Changes before after
+  pub refused : number ≢ 0 → (left ≡ r) × (after ≡ before)
+
+-- "a known method, object and user"
+pub record Known (b : Record) (m o s : ℕ) : Type 0 where
+  pub method : m < b .«method_count»
+  pub object : o < b .objects
+  pub user : isUser b s ≡ true
+
+-- "[a] set of grounds enabled in the graph of that book at that point [that] is consistent and meets the guard": the principals that are members of c
+pub record Will (b : Record) (book : Book) (m o s c : ℕ) : Type 0 where
+  pub grounds : c < 2 ^ (b .«principal_count»)
+  pub enabled : (p : ℕ) → In p c → enabledIn b book o s p ≡ true
+  pub consistent : consistent b c ≡ true
+  pub guard : meets b m (members b c) ≡ true
+
+-- "Each question with a known method, object and user is denied exactly when no set .. will do. Otherwise it returns such a set, the least in the documents' order:
+-- every other such set has at least as many members", and of those with as many none has a smaller number (`Before`). A question that is refused changes nothing.
+pub record QuestionHolds (b : Record) (book : Book) (m o s : ℕ) (r : Record) (a : Answer) : Type 0 where
+  pub denied : Known b m o s → ((a .number ≡ noSet) ↔ ((c : ℕ) → Will b book m o s c → ⊥))
+  pub empty : Known b m o s → a .number ≡ noSet → a .set ≡ 0
+  pub granted : Known b m o s → a .number ≢ noSet → (a .number ≡ 0) × Will b book m o s (a .set) × ((c : ℕ) → Will b book m o s c → Before (a .set) c)
+  pub refused : (Known b m o s → ⊥) → (a .rules ≡ r) × (a .set ≡ 0) × (a .number ≢ 0)
+
+-- "Eager and lazy forms of one question, put at the same point, return the same set."
+pub record SameSet (r : Record) (m o s : ℕ) : Type 0 where
+  pub number : eager r m o s .number ≡ lazy r m o s .number
+  pub set : eager r m o s .set ≡ lazy r m o s .set
+
+-- what is said of one call, put to the record r beside the book
+abbrev pub CallHolds : Record → Book → Record → Call → Type 0
+CallHolds b book r (add l x y) = EditHolds book (booked b book (add l x y)) (added r l x y .number) r (added r l x y .rules)
+CallHolds b book r (remove l x y) = EditHolds book (booked b book (remove l x y)) (removed r l x y .number) r (removed r l x y .rules)
+CallHolds b book r (askEagerly m o s) = QuestionHolds b book m o s r (eager r m o s) × SameSet r m o s
+CallHolds b book r (askLazily m o s) = QuestionHolds b book m o s r (lazy r m o s) × SameSet r m o s
+
+-- of a whole list: of its first call, and of the others on the record that it left, beside the book after it
+abbrev pub ListHolds : Record → Book → Record → List Call → Type 0
+ListHolds b book r [] = Unit {0}
+ListHolds b book r (c ∷ cs) = CallHolds b book r c × ListHolds b (booked b book c) (engineLeaves r c) cs
+
+-- of every text that loads, and every list of calls; the book starts with the edges of the edge lines
+abbrev pub Demand3 : Type 0
+Demand3 = (text : List ℕ) → load text .number ≡ 0 → (calls : List Call) → ListHolds (load text .rules) (rows edge (load text .rules)) (load text .rules) calls

@@ -1,0 +1,29 @@
+-- The columns keep their lengths under an edit and with another memo.
+use Prim.Native.Nat.{ℕ, _-_, _≤_}
+use mathlib.Core.Path.{_≡_}
+use mathlib.Core.List.{List, map}
+use native.Mathlib.Omega.{arith}
+use lib.ListN.{length, replicate, length-append, length-map, length-replicate}
+use Rattle.common.specs.Lists.{at}
+use Rattle.policy.specs.declared.Record.{Record}
+use Rattle.policy.specs.declared.Memo.{Memo}
+use Rattle.policy.specs.Table.{user, edge, formula, demarcation, hierarchy, principal, exclusion, prerequisite, method, column, changed, withMemo}
+use Rattle.policy.specs.TableLaws.{Sized, sized}
+
+column-long : (j : ℕ) (es : List (List ℕ)) → length es ≤ 512 → length (column j es) ≡ 512
+column-long j es few =
+    let a = length-append (map (λ e. at e j) es) (replicate (512 - length es) 0) in
+    let b = length-map es (λ e. at e j) in
+    let c = length-replicate {A = ℕ} (512 - length es) 0 in
+    omega arith
+
+pub sized-changed : (r : Record) (es : List (List ℕ)) (m : Memo) → length es ≤ 512 → Sized r → Sized (changed r es m)
+unfolding changed
+sized-changed r es m few s =
+    sized _ (s .long user) (column-long 0 es few, (column-long 1 es few, (column-long 2 es few, tt))) (s .long formula) (s .long demarcation) (s .long hierarchy) (s .long principal)
+    (s .long exclusion) (s .long prerequisite) (s .long method)
+
+pub sized-memo : (r : Record) (m : Memo) → Sized r → Sized (withMemo r m)
+unfolding withMemo
+sized-memo r m s =
+    sized _ (s .long user) (s .long edge) (s .long formula) (s .long demarcation) (s .long hierarchy) (s .long principal) (s .long exclusion) (s .long prerequisite) (s .long method)
