@@ -5,3 +5,6 @@ pub mod EditFollows
 pub mod AskFollows
 pub mod Demand3
 pub mod Theorem
+pub mod Replay
+pub mod ReplayLaws
+pub mod CrownTable

@@ -9,7 +9,7 @@ use native.Mathlib.Omega.{arith}
 use lib.Dec.{leb, eqb}
 use lib.ListN.{length}
 use borrow.Author.Tests.{eqb-true, eqb-false, eq-eqb, ne-eqb, lt-leb, leb-false}
-use Rattle.common.specs.Lists.{any, every, same}
+use Rattle.common.specs.Lists.{every, same}
 use Rattle.common.specs.BoolLaws.{and-cases, and-both, or-left}
 use Rattle.common.specs.Causes.{cause, first}
 use Rattle.common.specs.ListLaws.{length-table}
@@ -198,13 +198,13 @@ module _ (b : Record) (book : Book) (r : Record) (h : Follows b book r) where
         let e : ofAnswer (eager r m o s) ≡ ofAnswer (lazy r m o s) = eager-reply b book r h m o s ∙ sym (lazy-reply b book r h m o s) in
         record { number = ap (λ (v : Reply). v .number) e; set = ap (λ (v : Reply). v .set) e }
 
-  call-holds : (c : Call) → CallHolds b book r c
+  pub call-holds : (c : Call) → CallHolds b book r c
   call-holds (add l x y) = add-holds l x y
   call-holds (remove l x y) = remove-holds l x y
   call-holds (askEagerly m o s) = (eager-holds m o s, same-set m o s)
   call-holds (askLazily m o s) = (lazy-holds m o s, same-set m o s)
 
-  call-follows : (c : Call) → Follows b (booked b book c) (engineLeaves r c)
+  pub call-follows : (c : Call) → Follows b (booked b book c) (engineLeaves r c)
   unfolding booked engineLeaves
   call-follows (add l x y) = add-follows b book r h l x y
   call-follows (remove l x y) = remove-follows b book r h l x y
@@ -218,7 +218,7 @@ list-holds b [] book r h = tt
 list-holds b (c ∷ cs) book r h = (call-holds b book r h c, list-holds b cs (booked b book c) (engineLeaves r c) (call-follows b book r h c))
 
 -- a record just loaded follows the book of its own edges
-start : (text : List ℕ) → load text .number ≡ 0 → Follows (load text .rules) (rows edge (load text .rules)) (load text .rules)
+pub start : (text : List ℕ) → load text .number ≡ 0 → Follows (load text .rules) (rows edge (load text .rules)) (load text .rules)
 start text e =
     let g = load-good text e in
     let r = load text .rules in

@@ -1,1 +1,107 @@
-// The edge book beside the engine, over lists of calls: the theorem of demand 3 stands in specs/.
+// Lists of requests, answered one after another, each on the record that those before it left. The theorem of demand 3 over such lists stands in specs/.
+
+ghost use mathlib.Core.Path.{_≡_};
+ghost use mathlib.Core.List.{[], _∷_, _++_};
+ghost use Prim.Native.Nat.{_+_, _/_, _≤_, min};
+ghost use lib.ListN.{length, take, drop};
+ghost use Rattle.octets.specs.Number.{inOctets};
+ghost use Rattle.history.specs.Replay.{requestOf, ofEdit, ofVerdict, answerTo, answeredCount, bufferAfter};
+use access::Answer;
+use justification::Verdict;
+use policy::Edited;
+use policy::Record;
+
+// An edit's answer: no set, no evaluation.
+fn of_edit(edited: Edited) -> Answer
+    ensures { λ r. ⌜ r ≡ ofEdit edited ⌝ }
+{
+    let rules = edited.rules;
+    Answer {
+        number: edited.number,
+        set: 0,
+        evaluations: 0,
+        rules: rules,
+    }
+}
+
+// A predicate's answer: 1 for yes; the record stays.
+fn of_verdict(rules: Record, verdict: Verdict) -> Answer
+    ensures { λ r. ⌜ r ≡ ofVerdict rules verdict ⌝ }
+{
+    if verdict.yes {
+        return Answer {
+            number: verdict.number,
+            set: 1,
+            evaluations: 0,
+            rules: rules,
+        };
+    }
+    Answer {
+        number: verdict.number,
+        set: 0,
+        evaluations: 0,
+        rules: rules,
+    }
+}
+
+// Answers one request: 0 add, 1 remove, 2 eager, 3 lazy, 4 liberal, 5 strict; a kind above 5 is answered with 4.
+pub fn answer(rules: Record, kind: u8, a: u8, b: u8, c: u8) -> Answer
+    ensures { λ r. ⌜ r ≡ answerTo rules (requestOf kind a b c) ⌝ }
+{
+    match kind {
+        0 => of_edit(rules.add_edge(a, b, c)),
+        1 => of_edit(rules.remove_edge(a, b, c)),
+        2 => access::ask_eager(rules, a, b, c),
+        3 => access::ask_lazy(rules, a, b, c),
+        4 => of_verdict(rules, justification::liberal(rules, a, b, c)),
+        5 => of_verdict(rules, justification::strict(rules, a, b, c)),
+        6..=255 => Answer {
+            number: common::REFUSED_KIND,
+            set: 0,
+            evaluations: 0,
+            rules: rules,
+        },
+    }
+}
+
+// How many requests are whole in the calls and have room in the answers.
+fn answerable(calls: usize, answers: usize) -> usize
+    ensures { λ r. ⌜ r ≡ min (calls / 4) (answers / 5) ⌝ }
+{
+    let whole = calls / 4;
+    let room = answers / 5;
+    if whole < room {
+        return whole;
+    }
+    room
+}
+
+// Puts an answer's five octets at a place: number, set in 3 octets, evaluations.
+fn put_answer(answers: &mut [u8], place: usize, number: u8, set: u32, evaluations: u8)
+    requires { ⌜ place + 5 ≤ length (now answers) ⌝ }
+    ensures { λ _. ⌜ now (answers .exit) ≡ take place (now (answers .entry)) ++ (((number ∷ []) ++ (inOctets 3 set ++ (evaluations ∷ []))) ++ drop (place + 5) (now (answers .entry))) ⌝ }
+{
+    answers[place] = number;
+    answers[place + 1] = (set / 256 / 256 % 256) as u8;
+    answers[place + 2] = (set / 256 % 256) as u8;
+    answers[place + 3] = (set % 256) as u8;
+    answers[place + 4] = evaluations;
+}
+
+// Answers the requests in turn, and returns how many.
+pub fn replay(rules: Record, calls: &[u8], answers: &mut [u8]) -> usize
+    ensures { λ r. ⌜ (r ≡ answeredCount (now (calls .entry)) (now (answers .entry))) × (now (answers .exit) ≡ bufferAfter rules (now (calls .entry)) (now (answers .entry))) ⌝ }
+{
+    let n = answerable(calls.len(), answers.len());
+    let mut r = rules;
+    let mut i: usize = 0;
+    while i < n {
+        let at = 4 * i;
+        let got = answer(r, calls[at], calls[at + 1], calls[at + 2], calls[at + 3]);
+        put_answer(answers, 5 * i, got.number, got.set, got.evaluations);
+        let left = got.rules;
+        r = left;
+        i += 1;
+    }
+    n
+}

@@ -1,0 +1,91 @@
+-- The loop of `replay`: the answers so far stand first, and the rest of the buffer is as it was.
+use Prim.Native.Nat.{ℕ, zero, suc, _+_, _*_, _/_, _≤_, _<_, min}
+use mathlib.Core.Path.{_≡_, refl, sym, _∙_, ap}
+use mathlib.Core.List.{List, _++_, append-assoc}
+use native.Mathlib.Omega.{arith}
+use native.Mathlib.Nat.{min-le-left, min-le-right}
+use native.Mathlib.Numerals.{add-one}
+use lib.ListN.{length, take, drop, length-append, length-drop}
+use lib.Seq.{take-append-seam, drop-append-add, drop-drop}
+use Rattle.policy.specs.declared.Record.{Record}
+use Rattle.access.specs.declared.Answer.{Answer}
+use Rattle.history.specs.Replay.{answerTo, answerOctets, requestAt, leftAfter, replies, answeredCount, bufferAfter}
+
+length-replies : (r : Record) (calls : List ℕ) (n : ℕ) → length (replies r calls n) ≡ 5 * n
+unfolding replies
+length-replies r calls zero = refl
+length-replies r calls (suc n) =
+    let a = answerTo (leftAfter r calls n) (requestAt calls n) in
+    omega (arith, length-replies r calls n, length-append (replies r calls n) (answerOctets a))
+
+-- i of n requests have been answered
+pub record Replaying (calls buffer₀ : List ℕ) (r₀ : Record) (n : ℕ) (buffer : List ℕ) (r : Record) (i : ℕ) : Type 0 where
+  pub bytes : buffer ≡ replies r₀ calls i ++ drop (5 * i) buffer₀
+  pub left : r ≡ leftAfter r₀ calls i
+  pub within : i ≤ n
+
+pub replaying-start : (calls buffer : List ℕ) (r : Record) (n : ℕ) → Replaying calls buffer r n buffer r 0
+unfolding replies leftAfter
+replaying-start calls buffer r n = record { bytes = refl; left = refl; within = omega arith }
+
+-- as many as are whole and fit
+pub whole-fit : (a b n : ℕ) → n ≡ min (a / 4) (b / 5) → (4 * n ≤ a) × (5 * n ≤ b)
+whole-fit a b n e =
+    let x : min (a / 4) (b / 5) ≤ a / 4 = min-le-left (a / 4) (b / 5) in
+    let y : min (a / 4) (b / 5) ≤ b / 5 = min-le-right (a / 4) (b / 5) in
+    (omega (arith, e, x), omega (arith, e, y))
+
+module _ {calls buffer₀ : List ℕ} {r₀ : Record} {n : ℕ} {buffer : List ℕ} {r : Record} {i : ℕ} (w : Replaying calls buffer₀ r₀ n buffer r i) (room : 5 * n ≤ length buffer₀) where
+  pub replaying-length : length buffer ≡ length buffer₀
+  replaying-length =
+      ap length (w .bytes)
+      ∙ length-append (replies r₀ calls i) (drop (5 * i) buffer₀)
+      ∙ (let x = length-replies r₀ calls i in
+      let y = length-drop (5 * i) buffer₀ in
+      let z = w .within in
+      omega arith)
+
+  -- what is answered next
+  abbrev a : Answer
+  a = answerTo (leftAfter r₀ calls i) (requestAt calls i)
+
+  -- one more
+  pub replaying-more : (got : Answer) {after : List ℕ} → i < n → got ≡ answerTo r (requestAt calls i)
+      → after ≡ take (5 * i) buffer ++ (answerOctets got ++ drop (5 * i + 5) buffer) → Replaying calls buffer₀ r₀ n after (got .rules) (i + 1)
+  unfolding replies leftAfter
+  replaying-more got {after} l e f =
+      record {
+        bytes =
+            f
+            ∙ (λ j. first j ++ (answerOctets (told j) ++ later j))
+            ∙ sym (append-assoc (replies r₀ calls i) (answerOctets a) (drop (5 * i + 5) buffer₀))
+            ∙ (λ j. more j ++ drop (m j) buffer₀);
+        left = ap (λ (x : Answer). x .rules) told ∙ on;
+        within = omega arith;
+      }
+    where
+      told : got ≡ a
+      told = e ∙ ap (λ (x : Record). answerTo x (requestAt calls i)) (w .left)
+
+      m : 5 * i + 5 ≡ 5 * (i + 1)
+      m = omega arith
+
+      more : replies r₀ calls i ++ answerOctets a ≡ replies r₀ calls (i + 1)
+      more = rw (add-one i) refl
+
+      on : a .rules ≡ leftAfter r₀ calls (i + 1)
+      on = rw (add-one i) refl
+
+      first : take (5 * i) buffer ≡ replies r₀ calls i
+      first = (λ j. take (sym (length-replies r₀ calls i) j) (w .bytes j)) ∙ take-append-seam (replies r₀ calls i) (drop (5 * i) buffer₀)
+
+      later : drop (5 * i + 5) buffer ≡ drop (5 * i + 5) buffer₀
+      later =
+          let k : 5 * i + 5 ≡ length (replies r₀ calls i) + 5 = omega (arith, length-replies r₀ calls i) in
+          (λ j. drop (k j) (w .bytes j)) ∙ drop-append-add (replies r₀ calls i) (drop (5 * i) buffer₀) 5 ∙ drop-drop 5 (5 * i) buffer₀
+
+  pub replaying-end : n ≤ i → n ≡ answeredCount calls buffer₀ → buffer ≡ bufferAfter r₀ calls buffer₀
+  unfolding bufferAfter
+  replaying-end l e =
+      let m : i ≡ answeredCount calls buffer₀ = let z = w .within in omega arith in
+      w .bytes ∙ (λ j. replies r₀ calls (m j) ++ drop (5 * m j) buffer₀)

@@ -1,0 +1,52 @@
+-- The crown table of document 01, (a) to (k), each from a fresh load of the crown's bytes, computed.
+use Prim.Native.Nat.{ℕ}
+use mathlib.Core.Path.{_≡_, refl}
+use mathlib.Core.Bool.{true, false}
+use mathlib.Core.List.{List, [], _∷_}
+use Rattle.policy.specs.declared.Record.{Record}
+use Rattle.policy.specs.Table.{changed, withMemo}
+use Rattle.policy.specs.Loadable.{tableLoads, pairsLoad, loadable}
+use Rattle.policy.specs.Edits.{removed}
+use Rattle.formula.specs.Formula.{meaning, trueBelow, holdsOn, holds}
+use Rattle.justification.specs.Justification.{demarcationHas, have, meets, consistent, allSets, candidates, least}
+use Rattle.justification.specs.Predicates.{questionRefusal, isEnabled, liberal, strict}
+use Rattle.justification.specs.Walk.{evaluated, evaluatedAll, eagerly, tried, weighed, walk}
+use Rattle.access.specs.declared.Answer.{Answer}
+use Rattle.access.specs.Access.{memoFor, newly, answered, eager, lazy}
+use Rattle.reading.specs.Loading.{load}
+use Rattle.loading.specs.Examples.{computing}
+use Rattle.loading.specs.Crown.{crown}
+
+-- what a proof by computation opens, beside what loading opens
+unfoldable tabling : Unit {0}
+unfolding computing changed withMemo tableLoads pairsLoad loadable removed meaning trueBelow holdsOn holds demarcationHas have meets consistent allSets candidates least questionRefusal isEnabled liberal strict evaluated evaluatedAll eagerly tried weighed walk memoFor newly answered eager lazy
+tabling = tt
+
+-- a fresh load
+abbrev pub fresh : Record
+fresh = load crown .rules
+
+-- an answer's number, set number and evaluations; the set {1, 2} is 6, {0} is 1, the empty set is 0
+abbrev pub seen : Answer → List ℕ
+seen a = a .number ∷ a .set ∷ a .evaluations ∷ []
+
+-- a question takes method, object (0 the crown) and requestor (1 Ana, 2 Ben)
+pub record CrownTable : Type 0 where
+  pub loads : load crown .number ≡ 0
+  pub a : seen (lazy fresh 0 0 1) ≡ 0 ∷ 6 ∷ 2 ∷ []
+  pub b : seen (eager fresh 0 0 1) ≡ 0 ∷ 6 ∷ 3 ∷ []
+  pub c : seen (lazy fresh 1 0 1) ≡ 0 ∷ 1 ∷ 1 ∷ []
+  pub d : seen (lazy fresh 2 0 1) ≡ 0 ∷ 0 ∷ 0 ∷ []
+  pub e : seen (lazy fresh 3 0 1) ≡ 17 ∷ 0 ∷ 0 ∷ []
+  pub f : liberal fresh 3 0 1 ≡ record { number = 0; yes = true }
+  pub g : strict fresh 3 0 1 ≡ record { number = 0; yes = false }
+  pub h : seen (lazy fresh 0 0 2) ≡ 17 ∷ 0 ∷ 2 ∷ []
+  pub i : strict fresh 0 0 2 ≡ record { number = 0; yes = true }
+  pub j : seen (lazy (removed fresh 1 0 1 .rules) 0 0 1) ≡ 17 ∷ 0 ∷ 1 ∷ []
+  pub k : seen (lazy fresh 0 0 0) ≡ 16 ∷ 0 ∷ 0 ∷ []
+
+-- THE CROWN TABLE
+pub crown-table : CrownTable
+unfolding tabling
+crown-table =
+    record { loads = refl; a = refl; b = refl; c = refl; d = refl; e = refl; f = refl; g = refl; h = refl; i = refl; j = refl; k = refl }
