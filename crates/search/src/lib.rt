@@ -134,7 +134,8 @@ fn good(masks: Masks, s: u32, p: usize) -> bool
     ensures { λ r. ⌜ Decides r (Good masks s p) ⌝ }
 {
     if has(masks.allowed, p) {
-        if apart(s, masks.excludes[p]) {
+        let excluded = masks.excludes[p];
+        if apart(s, excluded) {
             within(masks.needs[p], s)
         } else {
             false

@@ -7,11 +7,11 @@ use Rattle.search.proofs.good.Tie as tie
 has-requires : tie.Need-has-requires
 has-requires c κs = search needs
 
-mul-apart : tie.Need-mul-apart
-mul-apart c = search needs
+mul-excluded : tie.Need-mul-excluded
+mul-excluded c = search needs
 
-element-copy-out-apart : tie.Need-element-copy-out-apart
-element-copy-out-apart c = search needs
+element-copy-out-excluded : tie.Need-element-copy-out-excluded
+element-copy-out-excluded c = search needs
 
 apart-requires : tie.Need-apart-requires
 apart-requires c κs = search needs
@@ -47,4 +47,4 @@ returns-3 c = refuted (λ g. c .before .has .ensures .no (c .if1 .left) (g .perm
 pub good-spec : {M : Type 1} → statement M
 good-spec =
     tie.close
-    (tie.spec has-requires mul-apart element-copy-out-apart apart-requires mul-within element-copy-out-within within-requires returns returns-2 returns-3)
+    (tie.spec has-requires mul-excluded element-copy-out-excluded apart-requires mul-within element-copy-out-within within-requires returns returns-2 returns-3)
