@@ -8,6 +8,7 @@ ghost use Rattle.common.specs.Sets.{member};
 ghost use Rattle.policy.specs.declared.Record as records;
 ghost use Rattle.policy.specs.Table.{Kind};
 ghost use Rattle.policy.specs.Loadable.{tableLoads};
+ghost use Rattle.policy.specs.Loadable as validity;
 ghost use Rattle.justification.specs.Justification.{members};
 ghost use Rattle.justification.specs.Justification as justifications;
 ghost use Rattle.justification.specs.Masked.{Masked, found};
@@ -180,7 +181,16 @@ fn valued(rules: Record, memo: Memo) -> u32
 pub fn ask_eager(rules: Record, method: u8, object: u8, requestor: u8) -> Answer
     ensures { λ r. ⌜ r ≡ access.eager rules method object requestor ⌝ }
 {
-    let number = justification::question_refusal(rules, method, object, requestor);
+    let loads = policy::loadable::loadable(rules);
+    ask_eager_if(rules, loads, method, object, requestor)
+}
+
+// The same, where it is known whether some bundle loads to the record.
+pub fn ask_eager_if(rules: Record, loads: bool, method: u8, object: u8, requestor: u8) -> Answer
+    requires { ⌜ loads ≡ validity.loadable rules ⌝ }
+    ensures { λ r. ⌜ r ≡ access.eager rules method object requestor ⌝ }
+{
+    let number = justification::question_refusal(rules, loads, method, object, requestor);
     if number != 0 {
         return refused(number, rules);
     }
@@ -252,11 +262,21 @@ fn weigh(rules: Record, memo: Memo, q: Setting, c: u32) -> Tried
     }
 }
 
-// The lazy question: at most one search more than there are principals, each among those not known false.
+// The lazy question.
 pub fn ask_lazy(rules: Record, method: u8, object: u8, requestor: u8) -> Answer
     ensures { λ r. ⌜ r ≡ access.lazy rules method object requestor ⌝ }
 {
-    let number = justification::question_refusal(rules, method, object, requestor);
+    let loads = policy::loadable::loadable(rules);
+    ask_lazy_if(rules, loads, method, object, requestor)
+}
+
+// The same, where it is known whether some bundle loads to the record: at most one search more than there are principals,
+// each among those not known false.
+pub fn ask_lazy_if(rules: Record, loads: bool, method: u8, object: u8, requestor: u8) -> Answer
+    requires { ⌜ loads ≡ validity.loadable rules ⌝ }
+    ensures { λ r. ⌜ r ≡ access.lazy rules method object requestor ⌝ }
+{
+    let number = justification::question_refusal(rules, loads, method, object, requestor);
     if number != 0 {
         return refused(number, rules);
     }

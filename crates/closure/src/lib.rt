@@ -16,35 +16,18 @@ fn at_most(count: usize, limit: usize) -> usize
     limit
 }
 
-// The relation that relates nothing.
-fn nothing() -> [[bool; 20]; 20]
-    ensures { λ r. ⌜ ((x y : ℕ) → x < 20 → y < 20 → On r x y → ⊥) ⌝ }
-{
-    [[false; 20]; 20]
-}
-
-// The relation m with the pair (i, j), which is passed over where it names a thing above 19.
-fn with_pair(m: [[bool; 20]; 20], i: u8, j: u8) -> [[bool; 20]; 20]
-    ensures { λ r. ⌜ ((x y : ℕ) → x < 20 → y < 20 → (On r x y ↔ (On m x y ⊎ ((i ≡ x) × (j ≡ y))))) ⌝ }
-{
-    let mut r = m;
-    let a = i as usize;
-    let b = j as usize;
-    if a < 20 && b < 20 {
-        r[a][b] = true;
-    }
-    r
-}
-
 // The relation that the first count pairs of two columns make: a pair that names a thing above 19 is passed over.
 pub fn related(firsts: [u8; 380], seconds: [u8; 380], count: usize) -> [[bool; 20]; 20]
     ensures { λ r. ⌜ ((i j : ℕ) → i < 20 → j < 20 → (On r i j ↔ Listed (pairsOf (min count 380) firsts seconds) i j)) ⌝ }
 {
     let n = at_most(count, 380);
-    let mut m = nothing();
+    let mut m = [[false; 20]; 20];
     for e in 0..n {
-        let more = with_pair(m, firsts[e], seconds[e]);
-        m = more;
+        let a = firsts[e] as usize;
+        let b = seconds[e] as usize;
+        if a < 20 && b < 20 {
+            m[a][b] = true;
+        }
     }
     m
 }

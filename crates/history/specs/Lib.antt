@@ -6,5 +6,6 @@ pub mod AskFollows
 pub mod Demand3
 pub mod Theorem
 pub mod Replay
+pub mod LoadLaws
 pub mod ReplayLaws
 pub mod CrownTable

@@ -5,6 +5,7 @@ ghost use mathlib.Core.List.{[], _∷_, _++_};
 ghost use Prim.Native.Nat.{_+_, _/_, _≤_, min};
 ghost use lib.ListN.{length, take, drop};
 ghost use Rattle.octets.specs.Number.{inOctets};
+ghost use Rattle.policy.specs.Loadable as validity;
 ghost use Rattle.history.specs.Replay.{requestOf, ofEdit, ofVerdict, answerTo, answeredCount, bufferAfter};
 use access::Answer;
 use justification::Verdict;
@@ -48,13 +49,22 @@ fn of_verdict(rules: Record, verdict: Verdict) -> Answer
 pub fn answer(rules: Record, kind: u8, a: u8, b: u8, c: u8) -> Answer
     ensures { λ r. ⌜ r ≡ answerTo rules (requestOf kind a b c) ⌝ }
 {
+    let loads = policy::loadable::loadable(rules);
+    answer_if(rules, loads, kind, a, b, c)
+}
+
+// The same, where it is known whether some bundle loads to the record.
+fn answer_if(rules: Record, loads: bool, kind: u8, a: u8, b: u8, c: u8) -> Answer
+    requires { ⌜ loads ≡ validity.loadable rules ⌝ }
+    ensures { λ r. ⌜ r ≡ answerTo rules (requestOf kind a b c) ⌝ }
+{
     match kind {
-        0 => of_edit(rules.add_edge(a, b, c)),
-        1 => of_edit(rules.remove_edge(a, b, c)),
-        2 => access::ask_eager(rules, a, b, c),
-        3 => access::ask_lazy(rules, a, b, c),
-        4 => of_verdict(rules, justification::liberal(rules, a, b, c)),
-        5 => of_verdict(rules, justification::strict(rules, a, b, c)),
+        0 => of_edit(rules.add_edge_if(loads, a, b, c)),
+        1 => of_edit(rules.remove_edge_if(loads, a, b, c)),
+        2 => access::ask_eager_if(rules, loads, a, b, c),
+        3 => access::ask_lazy_if(rules, loads, a, b, c),
+        4 => of_verdict(rules, justification::liberal_if(rules, loads, a, b, c)),
+        5 => of_verdict(rules, justification::strict_if(rules, loads, a, b, c)),
         6..=255 => Answer {
             number: common::REFUSED_KIND,
             set: 0,
@@ -88,16 +98,24 @@ fn put_answer(answers: &mut [u8], place: usize, number: u8, set: u32, evaluation
     answers[place + 4] = evaluations;
 }
 
-// Answers the requests in turn, and returns how many.
+// Answers the requests in turn, and returns how many. No request changes whether some bundle loads to the record: one test does for all.
 pub fn replay(rules: Record, calls: &[u8], answers: &mut [u8]) -> usize
     ensures { λ r. ⌜ (r ≡ answeredCount (now (calls .entry)) (now (answers .entry))) × (now (answers .exit) ≡ bufferAfter rules (now (calls .entry)) (now (answers .entry))) ⌝ }
 {
     let n = answerable(calls.len(), answers.len());
+    let loads = policy::loadable::loadable(rules);
     let mut r = rules;
     let mut i: usize = 0;
     while i < n {
         let at = 4 * i;
-        let got = answer(r, calls[at], calls[at + 1], calls[at + 2], calls[at + 3]);
+        let got = answer_if(
+            r,
+            loads,
+            calls[at],
+            calls[at + 1],
+            calls[at + 2],
+            calls[at + 3],
+        );
         put_answer(answers, 5 * i, got.number, got.set, got.evaluations);
         let left = got.rules;
         r = left;

@@ -1,13 +1,12 @@
 -- The columns of the closed relation are the sets of what leads to each thing along the pairs.
 use Prim.Native.Nat.{ℕ, min, _<_, _≤_}
 use mathlib.Core.Path.{_≡_, subst}
-use mathlib.Core.Logic.{_↔_, ⊎-elim}
+use mathlib.Core.Logic.{_↔_}
 use mathlib.Core.Bool.{Bool, true, false}
 use mathlib.Core.List.{List, []}
 use native.Mathlib.Omega.{arith}
 use lib.ListN.{getD}
 use Rattle.common.specs.Lists.{at}
-use Rattle.common.specs.SetLaws.{le-or-lt}
 use Rattle.closure.specs.Closure.{On, Listed, pairsOf, Closes, reaches}
 use Rattle.closure.specs.ClosureFact.{closed-reaches}
 use Rattle.policy.specs.Loadable.{pairsLoad}
@@ -16,17 +15,14 @@ use Rattle.justification.specs.Parts.{Marks}
 
 pub leading : (things n : ℕ) (a b : List ℕ) (m c : List (List Bool)) (sets : List ℕ) → pairsLoad things n a b ≡ true → things ≤ 20
     → ((i j : ℕ) → i < 20 → j < 20 → (On m i j ↔ Listed (pairsOf (min n 380) a b) i j)) → Closes (min things 20) (On m) (On c)
-    → ((j : ℕ) → j < 20 → Marks 20 (λ i. getD (getD c i []) j false) (at sets j))
+    → ((j : ℕ) → j < things → Marks things (λ i. getD (getD c i []) j false) (at sets j))
     → (j : ℕ) → j < things → Marks things (λ i. reaches (pairsOf n a b) i j) (at sets j)
 leading things n a b m c sets loads few rel closes marks j lj =
     record {
       only = λ p i.
-          let (l, e) = marks j (omega arith) .only p i in
-          ⊎-elim
-          (λ over. absurd (let x = named p j (same p j l (omega arith) .0 (closed .outside p j (λ lp _. omega arith) .0 e)) .0 in omega arith))
-          (λ lp. (lp, law p j lp lj .0 e))
-          (le-or-lt things p);
-      all = λ p lp e. marks j (omega arith) .all p (omega arith) (law p j lp lj .1 e);
+          let (lp, e) = marks j lj .only p i in
+          (lp, law p j lp lj .0 e);
+      all = λ p lp e. marks j lj .all p lp (law p j lp lj .1 e);
     }
   where
     all-pairs : min n 380 ≡ n

@@ -12,6 +12,7 @@ ghost use Rattle.common.specs.Sets.{member, In};
 ghost use Rattle.closure.specs.Closure.{pairsOf, reaches};
 ghost use Rattle.policy.specs.Table.{Kind};
 ghost use Rattle.policy.specs.Loadable.{tableLoads, pairsLoad};
+ghost use Rattle.policy.specs.Loadable as validity;
 ghost use Rattle.formula.specs.Formula.{isUser};
 ghost use Rattle.formula.specs.Evaluation.{trueIn};
 ghost use Rattle.justification.specs.Justification.{demarcationHas, needs};
@@ -60,14 +61,14 @@ pub fn marked(s: u32, p: usize, passes: bool) -> u32
 
 // ---- hierarchy and prerequisites, closed
 
-// The things that the relation c leads from to j.
-fn column_set(c: [[bool; 20]; 20], j: usize) -> u32
-    requires { ⌜ j < 20 ⌝ }
-    ensures { λ r. ⌜ Marks 20 (λ i. getD (getD c i []) j false) r ⌝ }
+// The things below n that the relation c leads from to j.
+fn column_set(c: [[bool; 20]; 20], n: usize, j: usize) -> u32
+    requires { ⌜ (n ≤ 20) × (j < 20) ⌝ }
+    ensures { λ r. ⌜ Marks n (λ i. getD (getD c i []) j false) r ⌝ }
 {
     let mut s: u32 = 0;
     let mut i: usize = 0;
-    while i < 20 {
+    while i < n {
         let more = marked(s, i, c[i][j]);
         s = more;
         i += 1;
@@ -75,14 +76,15 @@ fn column_set(c: [[bool; 20]; 20], j: usize) -> u32
     s
 }
 
-// The same for each j.
-fn column_sets(c: [[bool; 20]; 20]) -> [u32; 20]
-    ensures { λ r. ⌜ ((j : ℕ) → j < 20 → Marks 20 (λ i. getD (getD c i []) j false) (at r j)) ⌝ }
+// The same for each j below n.
+fn column_sets(c: [[bool; 20]; 20], n: usize) -> [u32; 20]
+    requires { ⌜ n ≤ 20 ⌝ }
+    ensures { λ r. ⌜ ((j : ℕ) → j < n → Marks n (λ i. getD (getD c i []) j false) (at r j)) ⌝ }
 {
     let mut sets = [0u32; 20];
     let mut j: usize = 0;
-    while j < 20 {
-        let s = column_set(c, j);
+    while j < n {
+        let s = column_set(c, n, j);
         sets[j] = s;
         j += 1;
     }
@@ -96,7 +98,7 @@ fn leading_to(things: usize, count: usize, firsts: [u8; 380], seconds: [u8; 380]
 {
     let relation = closure::related(firsts, seconds, count);
     let closed = closure::closed(relation, things);
-    column_sets(closed)
+    column_sets(closed, things)
 }
 
 // What each principal needs.
@@ -217,11 +219,12 @@ fn is_user(rules: Record, s: u8) -> bool
     found
 }
 
-// 19, 14, 15 or 16; 0 where the question may be put.
-pub fn question_refusal(rules: Record, method: u8, object: u8, requestor: u8) -> u8
+// 19, 14, 15 or 16; 0 where the question may be put. It is known whether some bundle loads to the record.
+pub fn question_refusal(rules: Record, loads: bool, method: u8, object: u8, requestor: u8) -> u8
+    requires { ⌜ loads ≡ validity.loadable rules ⌝ }
     ensures { λ r. ⌜ r ≡ questionRefusal rules method object requestor ⌝ }
 {
-    if !policy::loadable::loadable(rules) {
+    if !loads {
         return common::REFUSED_RECORD;
     }
     if rules.method_count <= (method as usize) {
@@ -266,7 +269,16 @@ pub fn enabled_of(rules: Record, object: u8, requestor: u8) -> u32
 pub fn liberal(rules: Record, method: u8, object: u8, requestor: u8) -> Verdict
     ensures { λ r. ⌜ r ≡ predicates.liberal rules method object requestor ⌝ }
 {
-    let number = question_refusal(rules, method, object, requestor);
+    let loads = policy::loadable::loadable(rules);
+    liberal_if(rules, loads, method, object, requestor)
+}
+
+// The same, where it is known whether some bundle loads to the record.
+pub fn liberal_if(rules: Record, loads: bool, method: u8, object: u8, requestor: u8) -> Verdict
+    requires { ⌜ loads ≡ validity.loadable rules ⌝ }
+    ensures { λ r. ⌜ r ≡ predicates.liberal rules method object requestor ⌝ }
+{
+    let number = question_refusal(rules, loads, method, object, requestor);
     if number != 0 {
         return Verdict {
             number: number,
@@ -303,7 +315,16 @@ fn one_meets(n: usize, s: u32, grants: [u64; 20], every: bool, wanted: u64) -> b
 pub fn strict(rules: Record, method: u8, object: u8, requestor: u8) -> Verdict
     ensures { λ r. ⌜ r ≡ predicates.strict rules method object requestor ⌝ }
 {
-    let number = question_refusal(rules, method, object, requestor);
+    let loads = policy::loadable::loadable(rules);
+    strict_if(rules, loads, method, object, requestor)
+}
+
+// The same, where it is known whether some bundle loads to the record.
+pub fn strict_if(rules: Record, loads: bool, method: u8, object: u8, requestor: u8) -> Verdict
+    requires { ⌜ loads ≡ validity.loadable rules ⌝ }
+    ensures { λ r. ⌜ r ≡ predicates.strict rules method object requestor ⌝ }
+{
+    let number = question_refusal(rules, loads, method, object, requestor);
     if number != 0 {
         return Verdict {
             number: number,

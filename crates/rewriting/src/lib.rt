@@ -52,7 +52,7 @@ fn refusal_text(number: u8, line: usize) -> Refusal
 }
 
 // Puts the first n bytes of a text at the start of the buffer, and returns n. Where they do not fit: 0, the buffer untouched.
-fn show(buffer: &mut [u8], text: &[u8], n: usize) -> usize
+pub fn show(buffer: &mut [u8], text: &[u8], n: usize) -> usize
     requires { ⌜ n ≤ length (now text) ⌝ }
     ensures { λ r. ⌜ (r ≡ shownLength (take n (now (text .entry))) (now (buffer .entry))) × (now (buffer .exit) ≡ shown (take n (now (text .entry))) (now (buffer .entry))) ⌝ }
 {

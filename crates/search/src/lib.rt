@@ -227,14 +227,18 @@ fn fits(masks: Masks, limit: usize, s: u32, barred: u32) -> bool
 
 // Of the wanted privileges that are not granted, one that few principals can give: first one that none can, then one, then two.
 // Any answer will do.
-fn rarest(masks: Masks, chosen: u32, granted: u64, barred: u32) -> u64 {
+fn rarest(masks: Masks, chosen: u32, granted: u64, barred: u32) -> u64
+    requires { ⌜ masks .count ≤ 20 ⌝ }
+{
     let unmet = masks.wanted & !granted;
+    let free = masks.allowed & !barred;
+    let count = masks.count;
     let mut once: u64 = 0;
     let mut twice: u64 = 0;
     let mut thrice: u64 = 0;
     let mut p: usize = 0;
-    while p < 20 {
-        let g = open_grants(masks, chosen, barred, p);
+    while p < count {
+        let g = open_grants(free, chosen, masks.excludes[p], masks.grants[p], p);
         thrice = thrice | (twice & g);
         twice = twice | (once & g);
         once = once | g;
@@ -243,15 +247,14 @@ fn rarest(masks: Masks, chosen: u32, granted: u64, barred: u32) -> u64 {
     lowest(first_of(unmet & !once, unmet & !twice, unmet & !thrice, unmet))
 }
 
-// What p gives, where p can be added to the chosen ones.
-fn open_grants(masks: Masks, chosen: u32, barred: u32, p: usize) -> u64
+// What p gives, where p is free and excludes none of the chosen ones.
+fn open_grants(free: u32, chosen: u32, excludes: u32, grants: u64, p: usize) -> u64
     requires { ⌜ p < 20 ⌝ }
 {
-    if has(barred, p) {
-        return 0;
-    }
-    if calm(masks, chosen, p) {
-        return masks.grants[p];
+    if has(free, p) {
+        if apart(chosen, excludes) {
+            return grants;
+        }
     }
     0
 }
@@ -277,7 +280,7 @@ fn lowest(x: u64) -> u64 {
 
 // Privileges of which every candidate has a member that gives some.
 fn asked(masks: Masks, chosen: u32, granted: u64, barred: u32) -> u64
-    requires { ⌜ (masks .wanted ≡ 0 → ⊥) ⌝ }
+    requires { ⌜ (masks .count ≤ 20) × (masks .wanted ≡ 0 → ⊥) ⌝ }
     ensures { λ r. ⌜ Asks masks r ⌝ }
 {
     if masks.every {

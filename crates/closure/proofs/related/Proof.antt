@@ -1,16 +1,16 @@
--- `closure::related` meets its contract. The invariant: after e pairs the relation is what these pairs make.
-use Prim.Native.Nat.{ℕ, _≤_, _<_, _-_, min}
-use mathlib.Core.Logic.{_↔_, ⊎-elim, inl, inr}
+-- `closure::related` meets its contract.
+use Prim.Native.Nat.{_≤_, _-_, min}
+use mathlib.Core.Logic.{inl, inr, ⊎-elim}
 use mathlib.Core.Path.{_≡_}
 use native.Mathlib.Omega.{arith}
+use borrow.Author.Tests.{ltb-true, ltb-false}
+use Rattle.closure.proofs.Relating.{Relating, relating-none, relating-put, relating-over}
 use borrow.Author.Needs.{needs}
-use Rattle.closure.specs.Closure.{On, Listed, pairsOf}
-use Rattle.closure.specs.ClosureFact.{pairs-more}
 use Rattle.closure.proofs.related.Statement.{statement}
 use Rattle.closure.proofs.related.Tie as tie
 
 abbrev Inv-loop : tie.InvT-loop
-Inv-loop count firsts seconds n m₀ e₀ m e = ((i j : ℕ) → i < 20 → j < 20 → (On m i j ↔ Listed (pairsOf e firsts seconds) i j)) × (e ≤ n)
+Inv-loop count firsts seconds n m₀ e₀ m e = Relating firsts seconds e m × (e ≤ n)
 
 abbrev μ-loop : tie.MeasureT-loop
 μ-loop count firsts seconds n m₀ e₀ m e = n - e
@@ -18,20 +18,29 @@ abbrev μ-loop : tie.MeasureT-loop
 at-most-requires : tie.Need-at-most-requires Inv-loop μ-loop
 at-most-requires c κs = search needs
 
-nothing-requires : tie.Need-nothing-requires Inv-loop μ-loop
-nothing-requires c κs = search needs
-
 loop-holds : tie.Need-loop-holds Inv-loop μ-loop
-loop-holds c = (λ i j li lj. (λ p. absurd (c .nothing .ensures i j li lj p), λ l. absurd l), omega arith)
+loop-holds c = (relating-none _ _, omega arith)
 
-array-read-with-pair : tie.Need-array-read-with-pair Inv-loop μ-loop
-array-read-with-pair c = search needs
+array-read-a : tie.Need-array-read-a Inv-loop μ-loop
+array-read-a c = search needs
 
-array-read-with-pair-2 : tie.Need-array-read-with-pair-2 Inv-loop μ-loop
-array-read-with-pair-2 c = search needs
+cast-a : tie.Need-cast-a Inv-loop μ-loop
+cast-a c = search needs
 
-with-pair-requires : tie.Need-with-pair-requires Inv-loop μ-loop
-with-pair-requires c κs = search needs
+array-read-b : tie.Need-array-read-b Inv-loop μ-loop
+array-read-b c = search needs
+
+cast-b : tie.Need-cast-b Inv-loop μ-loop
+cast-b c = search needs
+
+mul-m : tie.Need-mul-m Inv-loop μ-loop
+mul-m c = search needs
+
+index-1-m : tie.Need-index-1-m Inv-loop μ-loop
+index-1-m c = search needs
+
+index-2-m : tie.Need-index-2-m Inv-loop μ-loop
+index-2-m c = search needs
 
 add-e : tie.Need-add-e Inv-loop μ-loop
 add-e c = search needs
@@ -41,22 +50,16 @@ loop-less c = search needs
 
 loop-again : tie.Need-loop-again Inv-loop μ-loop
 loop-again c =
-    let a = c .before .before in
-    let start = a .before .before .before .args in (
-      λ i j li lj.
-          let w = c .with-pair .ensures i j li lj in
-          let e = a .loop .inv .0 i j li lj in
-          let p = pairs-more (a .loop .e) (start .t1) (start .t2) i j in (
-            λ r. p .1 (⊎-elim (λ x. inl (e .0 x)) (λ x. inr x) (w .0 r)),
-            λ l. w .1 (⊎-elim (λ x. inl (e .1 x)) (λ x. inr x) (p .0 l)),
-          ),
-      omega arith,
-    )
+    let a = c .before .before .loop .inv in
+    ⊎-elim
+    (λ w. rw (w .2) (relating-put (a .0) (w .0 .taken) (let l = w .1 .taken in omega (arith, ltb-true)), omega arith))
+    (λ w. rw (w .1) (relating-over (a .0) (⊎-elim (λ o. inr (let l = o .1 .left in omega (arith, ltb-false))) (λ o. inl (o .left)) (w .0 .came)), omega arith))
+    (c .if1 .came)
 
 returns : tie.Need-returns Inv-loop μ-loop
 returns c =
-    let e : c .before .loop .e ≡ min (c .before .before .before .before .args .count) 380 = omega arith in
-    rw (← e) (c .before .loop .inv .0)
+    let e : c .before .loop .e ≡ min (c .before .before .before .args .count) 380 = omega arith in
+    rw (← e) (c .before .loop .inv .0 .made)
 
 pub related-spec : {M : Type 1} → statement M
 related-spec =
@@ -65,11 +68,14 @@ related-spec =
     Inv-loop
     μ-loop
     at-most-requires
-    nothing-requires
     loop-holds
-    array-read-with-pair
-    array-read-with-pair-2
-    with-pair-requires
+    array-read-a
+    cast-a
+    array-read-b
+    cast-b
+    mul-m
+    index-1-m
+    index-2-m
     add-e
     loop-less
     loop-again

@@ -1,109 +1,16 @@
 -- `answer` meets its contract.
-use mathlib.Core.Path.{_∙_, ap}
 use borrow.Author.Needs.{needs}
-use Rattle.policy.specs.declared.Edited.{Edited}
-use Rattle.justification.specs.declared.Verdict.{Verdict}
-use Rattle.history.specs.Replay.{answerTo, ofEdit, ofVerdict}
-use Rattle.history.proofs.Arms.{arm, no-arm}
 use Rattle.history.proofs.answer.Statement.{statement}
 use Rattle.history.proofs.answer.Tie as tie
 
-add-edge-requires : tie.Need-add-edge-requires
-add-edge-requires c κs = search needs
+loadable-requires : tie.Need-loadable-requires
+loadable-requires c κs = search needs
 
-of-edit-requires : tie.Need-of-edit-requires
-of-edit-requires c κs = search needs
-
-remove-edge-requires : tie.Need-remove-edge-requires
-remove-edge-requires c κs = search needs
-
-of-edit-requires-2 : tie.Need-of-edit-requires-2
-of-edit-requires-2 c κs = search needs
-
-ask-eager-requires : tie.Need-ask-eager-requires
-ask-eager-requires c κs = search needs
-
-ask-lazy-requires : tie.Need-ask-lazy-requires
-ask-lazy-requires c κs = search needs
-
-liberal-requires : tie.Need-liberal-requires
-liberal-requires c κs = search needs
-
-of-verdict-requires : tie.Need-of-verdict-requires
-of-verdict-requires c κs = search needs
-
-strict-requires : tie.Need-strict-requires
-strict-requires c κs = search needs
-
-of-verdict-requires-2 : tie.Need-of-verdict-requires-2
-of-verdict-requires-2 c κs = search needs
+answer-if-requires : tie.Need-answer-if-requires
+answer-if-requires c κs = c .loadable .ensures
 
 returns : tie.Need-returns
-unfolding answerTo
-returns c =
-    let m = c .before .before in
-    let a = m .before .args in
-    arm (a .rules) (a .kind) 0 (a .a) (a .b) (a .c) (m .match .keys1) (c .of-edit .ensures ∙ ap (λ (x : Edited). ofEdit x) (c .before .add-edge .ensures))
-
-returns-2 : tie.Need-returns-2
-unfolding answerTo
-returns-2 c =
-    let m = c .before .before in
-    let a = m .before .args in
-    arm (a .rules) (a .kind) 1 (a .a) (a .b) (a .c) (m .match .keys2) (c .of-edit2 .ensures ∙ ap (λ (x : Edited). ofEdit x) (c .before .remove-edge .ensures))
-
-returns-3 : tie.Need-returns-3
-unfolding answerTo
-returns-3 c =
-    let m = c .before in
-    let a = m .before .args in
-    arm (a .rules) (a .kind) 2 (a .a) (a .b) (a .c) (m .match .keys3) (c .ask-eager .ensures)
-
-returns-4 : tie.Need-returns-4
-unfolding answerTo
-returns-4 c =
-    let m = c .before in
-    let a = m .before .args in
-    arm (a .rules) (a .kind) 3 (a .a) (a .b) (a .c) (m .match .keys4) (c .ask-lazy .ensures)
-
-returns-5 : tie.Need-returns-5
-unfolding answerTo
-returns-5 c =
-    let m = c .before .before in
-    let a = m .before .args in
-    arm (a .rules) (a .kind) 4 (a .a) (a .b) (a .c) (m .match .keys5) (c .of-verdict .ensures ∙ ap (λ (x : Verdict). ofVerdict (a .rules) x) (c .before .liberal .ensures))
-
-returns-6 : tie.Need-returns-6
-unfolding answerTo
-returns-6 c =
-    let m = c .before .before in
-    let a = m .before .args in
-    arm (a .rules) (a .kind) 5 (a .a) (a .b) (a .c) (m .match .keys6) (c .of-verdict2 .ensures ∙ ap (λ (x : Verdict). ofVerdict (a .rules) x) (c .before .strict .ensures))
-
-returns-7 : tie.Need-returns-7
-returns-7 c =
-    let a = c .before .args in
-    let n = c .match .rest in
-    no-arm (a .rules) (a .kind) (a .a) (a .b) (a .c) (n .0 .0 .0 .0 .0 .1) (n .0 .0 .0 .0 .1) (n .0 .0 .0 .1) (n .0 .0 .1) (n .0 .1) (n .1)
+returns c = c .answer-if .ensures
 
 pub answer-spec : {M : Type 1} → statement M
-answer-spec =
-    tie.close
-    (tie.spec
-    add-edge-requires
-    of-edit-requires
-    remove-edge-requires
-    of-edit-requires-2
-    ask-eager-requires
-    ask-lazy-requires
-    liberal-requires
-    of-verdict-requires
-    strict-requires
-    of-verdict-requires-2
-    returns
-    returns-2
-    returns-3
-    returns-4
-    returns-5
-    returns-6
-    returns-7)
+answer-spec = tie.close (tie.spec loadable-requires answer-if-requires returns)

@@ -1,64 +1,72 @@
 -- `replay` meets its contract.
 use Prim.Native.Nat.{_-_, _*_, _≤_}
+use mathlib.Core.Path.{_≡_, sym, _∙_, ap}
 use native.Mathlib.Omega.{arith}
 use lib.ListN.{length}
 use borrow.Author.Needs.{needs}
+use Rattle.policy.specs.declared.Record.{Record}
+use Rattle.policy.specs.Loadable.{loadable}
+use Rattle.access.specs.declared.Answer.{Answer}
+use Rattle.history.specs.LoadLaws.{answer-loads}
 use Rattle.history.proofs.Replaying.{Replaying, replaying-start, whole-fit, replaying-length, replaying-more, replaying-end}
 use Rattle.history.proofs.replay.Statement.{statement}
 use Rattle.history.proofs.replay.Tie as tie
 
 abbrev Inv-loop : tie.InvT-loop
-Inv-loop calls answers₀ n r₀ i₀ answers r i = Replaying calls answers₀ r₀ n answers r i
+Inv-loop calls answers₀ n loads r₀ i₀ answers r i = Replaying calls answers₀ r₀ n answers r i × (loads ≡ loadable r)
 
 abbrev μ-loop : tie.MeasureT-loop
-μ-loop calls answers₀ n r₀ i₀ answers r i = n - i
+μ-loop calls answers₀ n loads r₀ i₀ answers r i = n - i
 
 -- the function's entry, from a step of the loop
 abbrev entry : tie.In-loop Inv-loop μ-loop → tie.Start Inv-loop μ-loop
-entry c = c .before .before .before .before .before
+entry c = c .before .before .before .before .before .before
 
 -- the requests to answer are whole, and fit
-fits : (c : tie.In-loop Inv-loop μ-loop) → (4 * c .before .before .answerable .result ≤ length (entry c .args .calls .now)) × (5 * c .before .before .answerable .result ≤ length (entry c .args .answers .now))
-fits c = whole-fit _ _ _ (c .before .before .answerable .ensures)
+fits : (c : tie.In-loop Inv-loop μ-loop) → (4 * c .before .before .before .answerable .result ≤ length (entry c .args .calls .now)) × (5 * c .before .before .before .answerable .result ≤ length (entry c .args .answers .now))
+fits c = whole-fit _ _ _ (c .before .before .before .answerable .ensures)
 
 answerable-requires : tie.Need-answerable-requires Inv-loop μ-loop
 answerable-requires c κs = search needs
 
 loop-holds : tie.Need-loop-holds Inv-loop μ-loop
-loop-holds c = replaying-start _ _ _ _
+loop-holds c = (replaying-start _ _ _ _, c .loadable .ensures)
 
 mul-at : tie.Need-mul-at Inv-loop μ-loop
 mul-at c = omega (arith, fits c .0, entry c .good .1 .0)
 
-shared-slice-read-answer : tie.Need-shared-slice-read-answer Inv-loop μ-loop
-shared-slice-read-answer c = omega (arith, fits (c .before) .0)
+shared-slice-read-answer-if : tie.Need-shared-slice-read-answer-if Inv-loop μ-loop
+shared-slice-read-answer-if c = omega (arith, fits (c .before) .0)
 
-add-answer : tie.Need-add-answer Inv-loop μ-loop
-add-answer c = omega (arith, fits (c .before) .0, entry (c .before) .good .1 .0)
+add-answer-if : tie.Need-add-answer-if Inv-loop μ-loop
+add-answer-if c = omega (arith, fits (c .before) .0, entry (c .before) .good .1 .0)
 
-shared-slice-read-answer-2 : tie.Need-shared-slice-read-answer-2 Inv-loop μ-loop
-shared-slice-read-answer-2 c = omega (arith, fits (c .before .before) .0)
+shared-slice-read-answer-if-2 : tie.Need-shared-slice-read-answer-if-2 Inv-loop μ-loop
+shared-slice-read-answer-if-2 c = omega (arith, fits (c .before .before) .0)
 
-add-answer-2 : tie.Need-add-answer-2 Inv-loop μ-loop
-add-answer-2 c = omega (arith, fits (c .before .before) .0, entry (c .before .before) .good .1 .0)
+add-answer-if-2 : tie.Need-add-answer-if-2 Inv-loop μ-loop
+add-answer-if-2 c = omega (arith, fits (c .before .before) .0, entry (c .before .before) .good .1 .0)
 
-shared-slice-read-answer-3 : tie.Need-shared-slice-read-answer-3 Inv-loop μ-loop
-shared-slice-read-answer-3 c = omega (arith, fits (c .before .before .before) .0)
+shared-slice-read-answer-if-3 : tie.Need-shared-slice-read-answer-if-3 Inv-loop μ-loop
+shared-slice-read-answer-if-3 c = omega (arith, fits (c .before .before .before) .0)
 
-add-answer-3 : tie.Need-add-answer-3 Inv-loop μ-loop
-add-answer-3 c = omega (arith, fits (c .before .before .before) .0, entry (c .before .before .before) .good .1 .0)
+add-answer-if-3 : tie.Need-add-answer-if-3 Inv-loop μ-loop
+add-answer-if-3 c = omega (arith, fits (c .before .before .before) .0, entry (c .before .before .before) .good .1 .0)
 
-shared-slice-read-answer-4 : tie.Need-shared-slice-read-answer-4 Inv-loop μ-loop
-shared-slice-read-answer-4 c = omega (arith, fits (c .before .before .before .before) .0)
+shared-slice-read-answer-if-4 : tie.Need-shared-slice-read-answer-if-4 Inv-loop μ-loop
+shared-slice-read-answer-if-4 c = omega (arith, fits (c .before .before .before .before) .0)
 
-answer-requires : tie.Need-answer-requires Inv-loop μ-loop
-answer-requires c κs = search needs
+loadable-requires : tie.Need-loadable-requires Inv-loop μ-loop
+loadable-requires c κs = search needs
+
+answer-if-requires : tie.Need-answer-if-requires Inv-loop μ-loop
+answer-if-requires c κs = c .before .before .before .before .before .loop .inv .1
 
 mul-put-answer : tie.Need-mul-put-answer Inv-loop μ-loop
 mul-put-answer c = omega (arith, fits (c .before .before .before .before .before .before) .1, entry (c .before .before .before .before .before .before) .good .1 .1 .0)
 
 put-answer-requires : tie.Need-put-answer-requires Inv-loop μ-loop
-put-answer-requires c κs = let h = c .before .before .before .before .before .before in omega (arith, fits h .1, replaying-length (h .before .loop .inv) (fits h .1))
+put-answer-requires c κs = let h = c .before .before .before .before .before .before in omega (arith, fits h .1, replaying-length (h .before .loop .inv .0) (fits h .1))
 
 add-i : tie.Need-add-i Inv-loop μ-loop
 add-i c = omega (arith, fits (c .before .before .before .before .before .before .before .before .before .before) .1, entry (c .before .before .before .before .before .before .before .before .before .before) .good .1 .1 .0)
@@ -69,13 +77,17 @@ loop-less c = omega arith
 loop-again : tie.Need-loop-again Inv-loop μ-loop
 loop-again c =
     let h = c .before .before .before .before .before .before .before .before .before .before in
-    replaying-more (h .before .loop .inv) (fits h .1) (c .before .before .before .before .before .answer .result) (h .loop-test .taken) (c .before .before .before .before .before .answer .ensures) (c .before .before .before .put-answer .ensures)
+    let got = c .before .before .before .before .before .answer-if in
+    let at-loop = h .before .loop .inv in (
+      replaying-more (at-loop .0) (fits h .1) (got .result) (h .loop-test .taken) (got .ensures) (c .before .before .before .put-answer .ensures),
+      at-loop .1 ∙ sym (ap (λ (x : Answer). loadable (x .rules)) (got .ensures) ∙ answer-loads _ _),
+    )
 
 same-length : tie.Need-same-length Inv-loop μ-loop
-same-length c = let s = c .before .before in replaying-length (c .before .loop .inv) (whole-fit _ _ _ (s .answerable .ensures) .1)
+same-length c = let s = c .before .before .before in replaying-length (c .before .loop .inv .0) (whole-fit _ _ _ (s .answerable .ensures) .1)
 
 returns : tie.Need-returns Inv-loop μ-loop
-returns c = let s = c .before .before in (s .answerable .ensures, replaying-end (c .before .loop .inv) (whole-fit _ _ _ (s .answerable .ensures) .1) (c .loop-test .left) (s .answerable .ensures))
+returns c = let s = c .before .before .before in (s .answerable .ensures, replaying-end (c .before .loop .inv .0) (whole-fit _ _ _ (s .answerable .ensures) .1) (c .loop-test .left) (s .answerable .ensures))
 
 pub replay-spec : {M : Type 1} → statement M
 replay-spec =
@@ -84,16 +96,17 @@ replay-spec =
     Inv-loop
     μ-loop
     answerable-requires
+    loadable-requires
     loop-holds
     mul-at
-    shared-slice-read-answer
-    add-answer
-    shared-slice-read-answer-2
-    add-answer-2
-    shared-slice-read-answer-3
-    add-answer-3
-    shared-slice-read-answer-4
-    answer-requires
+    shared-slice-read-answer-if
+    add-answer-if
+    shared-slice-read-answer-if-2
+    add-answer-if-2
+    shared-slice-read-answer-if-3
+    add-answer-if-3
+    shared-slice-read-answer-if-4
+    answer-if-requires
     mul-put-answer
     put-answer-requires
     add-i

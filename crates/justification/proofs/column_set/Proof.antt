@@ -12,10 +12,10 @@ use Rattle.justification.proofs.column_set.Statement.{statement}
 use Rattle.justification.proofs.column_set.Tie as tie
 
 abbrev Inv-loop : tie.InvT-loop
-Inv-loop j c s₀ i₀ s i = Marks i (λ k. getD (getD c k []) j false) s × (i ≤ 20)
+Inv-loop n j c s₀ i₀ s i = Marks i (λ k. getD (getD c k []) j false) s × (i ≤ n)
 
 abbrev μ-loop : tie.MeasureT-loop
-μ-loop j c s₀ i₀ s i = 20 - i
+μ-loop n j c s₀ i₀ s i = n - i
 
 loop-holds : tie.Need-loop-holds Inv-loop μ-loop
 loop-holds c = (marks-none _, omega arith)

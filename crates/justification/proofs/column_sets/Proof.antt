@@ -13,10 +13,10 @@ use Rattle.justification.proofs.column_sets.Statement.{statement}
 use Rattle.justification.proofs.column_sets.Tie as tie
 
 abbrev Inv-loop : tie.InvT-loop
-Inv-loop c sets₀ j₀ sets j = ((k : ℕ) → k < j → Marks 20 (λ i. getD (getD c i []) k false) (at sets k)) × (length sets ≡ 20) × (j ≤ 20)
+Inv-loop c n sets₀ j₀ sets j = ((k : ℕ) → k < j → Marks n (λ i. getD (getD c i []) k false) (at sets k)) × (length sets ≡ 20) × (j ≤ n)
 
 abbrev μ-loop : tie.MeasureT-loop
-μ-loop c sets₀ j₀ sets j = 20 - j
+μ-loop c n sets₀ j₀ sets j = n - j
 
 loop-holds : tie.Need-loop-holds Inv-loop μ-loop
 loop-holds c = (λ k l. absurd (omega arith), refl, omega arith)
@@ -38,7 +38,7 @@ loop-less c = search needs
 
 loop-again : tie.Need-loop-again Inv-loop μ-loop
 loop-again c = let l = c .before .before in
-    (stored (λ k s. Marks 20 (λ i. getD (getD (l .before .args .c) i []) k false) s) (l .loop .sets) (l .loop .j) _ (omega arith) (l .loop .inv .0) (c .«column-set» .ensures), simp length-set (l .loop .inv .1), omega arith)
+    (stored (λ k s. Marks (l .before .args .n) (λ i. getD (getD (l .before .args .c) i []) k false) s) (l .loop .sets) (l .loop .j) _ (omega arith) (l .loop .inv .0) (c .«column-set» .ensures), simp length-set (l .loop .inv .1), omega arith)
 
 returns : tie.Need-returns Inv-loop μ-loop
 returns c = λ j l. c .before .loop .inv .0 j (omega arith)

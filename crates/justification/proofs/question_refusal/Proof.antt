@@ -10,15 +10,12 @@ use borrow.Author.Needs.{needs}
 use Rattle.justification.proofs.question_refusal.Statement.{statement}
 use Rattle.justification.proofs.question_refusal.Tie as tie
 
-loadable-requires : tie.Need-loadable-requires
-loadable-requires c κs = search needs
-
 -- the record is loadable past the first test, the method is there past the second, the object past the third
-loads : (e : tie.Else1) → loadable (e .before .before .args .rules) ≡ true
-loads e = sym (e .before .loadable .ensures) ∙ not-false _ (e .if1 .left)
+loads : (e : tie.Else1) → loadable (e .before .args .rules) ≡ true
+loads e = sym (e .before .pre) ∙ not-false _ (e .if1 .left)
 
 returns : tie.Need-returns
-returns c = not-loadable _ _ _ _ (sym (c .before .loadable .ensures) ∙ not-true _ (c .if1 .taken))
+returns c = not-loadable _ _ _ _ (sym (c .before .pre) ∙ not-true _ (c .if1 .taken))
 
 returns-2 : tie.Need-returns-2
 returns-2 c = no-method _ _ _ _ (loads (c .before .before)) (c .if2 .taken)
@@ -46,4 +43,4 @@ returns-5 c =
 pub question-refusal-spec : {M : Type 1} → statement M
 question-refusal-spec =
     tie.close
-    (tie.spec loadable-requires returns returns-2 returns-3 is-user-requires returns-4 returns-5)
+    (tie.spec returns returns-2 returns-3 is-user-requires returns-4 returns-5)

@@ -1,4 +1,5 @@
 -- `possible` and `by_giver` call one another and meet their contracts: at depth d the measures are 22d + 21 and 22d + (20 - p).
+use native.Mathlib.Omega.{arith}
 use mathlib.Core.Path.{_≡_, ap, subst, _∙_}
 use mathlib.Core.Logic.{⊎-elim}
 use Prim.Native.Nat.{ℕ, _+_, _-_, _*_, _^_, _<_}
@@ -148,7 +149,7 @@ possible-returns-3 : (t : ℕ) → possible-lts.Need-returns-3 (possible-claims 
 possible-returns-3 t c = λ e. absurd (true-not-false e)
 
 possible-asked-requires : (t : ℕ) → possible-lts.Need-asked-requires (possible-claims t) (possible-at t) possible.Post
-possible-asked-requires t c κs = c .before .if2 .left
+possible-asked-requires t c κs = (omega arith, c .before .if2 .left)
 
 possible-by-giver-requires : (t : ℕ) → possible-lts.Need-by-giver-requires (possible-claims t) (possible-at t) possible.Post
 possible-by-giver-requires t c κs = search needs

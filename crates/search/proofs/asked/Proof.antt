@@ -12,10 +12,10 @@ returns : tie.Need-returns
 returns c = asks-part _ (c .before .before .before .if1 .taken) (c .if2 .taken)
 
 returns-2 : tie.Need-returns-2
-returns-2 c = asks-all (c .before .before .before .before .pre)
+returns-2 c = asks-all (c .before .before .before .before .pre .1)
 
 returns-3 : tie.Need-returns-3
-returns-3 c = asks-all (c .before .pre)
+returns-3 c = asks-all (c .before .pre .1)
 
 pub asked-spec : {M : Type 1} → statement M
 asked-spec = tie.close (tie.spec rarest-requires returns returns-2 returns-3)

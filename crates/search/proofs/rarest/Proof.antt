@@ -8,13 +8,25 @@ use Rattle.search.proofs.lowest.Reads as lowest-reads
 use Rattle.search.proofs.open_grants.Reads as open-grants-reads
 
 abbrev Inv-loop : tie.InvT-loop
-Inv-loop masks chosen granted barred unmet once₀ twice₀ thrice₀ p₀ once twice thrice p = p ≤ 20
+Inv-loop chosen granted barred masks unmet free count once₀ twice₀ thrice₀ p₀ once twice thrice p = p ≤ count
 
 abbrev μ-loop : tie.MeasureT-loop
-μ-loop masks chosen granted barred unmet once₀ twice₀ thrice₀ p₀ once twice thrice p = 20 - p
+μ-loop chosen granted barred masks unmet free count once₀ twice₀ thrice₀ p₀ once twice thrice p = count - p
 
 loop-holds : tie.Need-loop-holds Inv-loop μ-loop
 loop-holds c = search needs
+
+mul-open-grants : tie.Need-mul-open-grants Inv-loop μ-loop
+mul-open-grants c = search needs
+
+element-copy-out-open-grants : tie.Need-element-copy-out-open-grants Inv-loop μ-loop
+element-copy-out-open-grants c = search needs
+
+mul-open-grants-2 : tie.Need-mul-open-grants-2 Inv-loop μ-loop
+mul-open-grants-2 c = search needs
+
+element-copy-out-open-grants-2 : tie.Need-element-copy-out-open-grants-2 Inv-loop μ-loop
+element-copy-out-open-grants-2 c = search needs
 
 open-grants-requires : tie.Need-open-grants-requires Inv-loop μ-loop
 open-grants-requires c κs = search needs
@@ -44,6 +56,10 @@ rarest-spec =
     Inv-loop
     μ-loop
     loop-holds
+    mul-open-grants
+    element-copy-out-open-grants
+    mul-open-grants-2
+    element-copy-out-open-grants-2
     open-grants-requires
     add-p
     loop-less

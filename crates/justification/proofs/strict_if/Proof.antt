@@ -1,0 +1,84 @@
+-- `strict_if` meets its contract.
+use mathlib.Core.Path.{_≡_, sym, _∙_}
+use Prim.Native.Nat.{_<_}
+use mathlib.Core.Bool.{true}
+use Rattle.policy.specs.Loadable.{tableLoads}
+use native.Mathlib.Omega.{arith}
+use Rattle.policy.specs.LoadableLaws.{table-few, loadable-table}
+use Rattle.policy.specs.Table.{Kind, principal, method}
+use Rattle.justification.proofs.Verdicts.{strict-yes}
+use Rattle.justification.proofs.Asking.{Asked, asked, strict-refused, strict-is}
+use borrow.Author.Needs.{needs}
+use Rattle.justification.proofs.strict_if.Statement.{statement}
+use Rattle.justification.proofs.strict_if.Tie as tie
+
+question-refusal-requires : tie.Need-question-refusal-requires
+question-refusal-requires c κs = c .pre
+
+returns : tie.Need-returns
+returns c = strict-refused _ _ _ _ (c .before .«question-refusal» .ensures) (c .if1 .taken)
+
+place-requires : tie.Need-place-requires
+place-requires c κs = search needs
+
+-- past the test of the number: the question may be put
+module _ (h : tie.After-place) where
+  abbrev start : tie.Start
+  start = h .before .before .before
+
+  may : Asked (start .args .t1) (start .args .method) (start .args .object) (start .args .requestor)
+  may = asked _ _ _ _ (sym (h .before .before .«question-refusal» .ensures) ∙ h .before .if1 .left)
+
+  tables : (j : Kind) → tableLoads (start .args .t1) j ≡ true
+  tables = loadable-table _ (may .loads)
+
+  in-range : h .place .result < 32
+  in-range = let n = table-few _ method (tables method) in omega (arith, h .place .ensures, may .method)
+
+enabled-of-requires : tie.Need-enabled-of-requires
+enabled-of-requires c κs = tables c
+
+grants-of-requires : tie.Need-grants-of-requires
+grants-of-requires c κs = tables (c .before)
+
+mul-listed : tie.Need-mul-listed
+mul-listed c = omega (arith, in-range (c .before .before))
+
+element-copy-out-listed : tie.Need-element-copy-out-listed
+element-copy-out-listed c = in-range (c .before .before)
+
+listed-requires : tie.Need-listed-requires
+listed-requires c κs = search needs
+
+element-copy-out-every : tie.Need-element-copy-out-every
+element-copy-out-every c = in-range (c .before .before .before .before)
+
+one-meets-requires : tie.Need-one-meets-requires
+one-meets-requires c κs = table-few _ principal (tables (c .before .before .before .before .before) principal)
+
+returns-2 : tie.Need-returns-2
+returns-2 c =
+    let l = c .before .before in
+    let g = l .before .before in
+    let e = g .before in
+    let h = e .before in
+    let s = start h in
+    strict-is (s .args .t1) _ _ _ (sym (h .before .if1 .left) ∙ h .before .before .«question-refusal» .ensures) (c .«one-meets» .result)
+    (strict-yes (s .args .t1) (s .args .object) (s .args .requestor) (e .«enabled-of» .result) (g .«grants-of» .result) (e .«enabled-of» .ensures) (g .«grants-of» .ensures)
+    (h .place .ensures) (l .listed .ensures .0) (l .listed .ensures .1) (c .«one-meets» .result) (c .«one-meets» .ensures))
+
+pub strict-if-spec : {M : Type 1} → statement M
+strict-if-spec =
+    tie.close
+    (tie.spec
+    question-refusal-requires
+    returns
+    place-requires
+    enabled-of-requires
+    grants-of-requires
+    mul-listed
+    element-copy-out-listed
+    listed-requires
+    element-copy-out-every
+    one-meets-requires
+    returns-2)

@@ -1,0 +1,4 @@
+pub mod Adding
+pub mod Answers
+pub mod Digits
+pub mod Short

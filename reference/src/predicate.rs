@@ -1,0 +1,31 @@
+//! The two predicates, liberal and strict.
+
+use crate::grounds::{members, Grounds};
+use crate::policy::Policy;
+
+/// "Both evaluate afresh without the memo, ignore constraints, return yes or no, and leave the
+/// record."
+impl Policy {
+    /// "Liberal (definition 10) asks whether all enabled principals together meet the guard".
+    pub fn liberal(&self, method: u8, object: u8, requestor: u8) -> Result<bool, u8> {
+        let method = self.checked(method, object, requestor)?;
+        let enabled = self.enabled_afresh(object, requestor);
+        Ok(Grounds::of(self).meets(enabled, method))
+    }
+
+    /// "strict (definition 11), whether one alone does."
+    pub fn strict(&self, method: u8, object: u8, requestor: u8) -> Result<bool, u8> {
+        let method = self.checked(method, object, requestor)?;
+        let enabled = self.enabled_afresh(object, requestor);
+        let grounds = Grounds::of(self);
+        let mut alone = members(enabled).map(|p| 1 << p);
+        Ok(alone.any(|set| grounds.meets(set, method)))
+    }
+
+    /// "A principal is enabled when its formula is true at o", here "afresh without the memo".
+    fn enabled_afresh(&self, o: u8, s: u8) -> u32 {
+        (0..self.principals.len())
+            .filter(|&p| self.is_true(self.principals[p].formula, o, o, s))
+            .fold(0, |set, p| set | 1 << p)
+    }
+}

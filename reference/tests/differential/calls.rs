@@ -1,0 +1,224 @@
+//! Lists of calls on a policy, four octets each.
+
+use crate::policy::Lines;
+use crate::random::Random;
+
+/// A call: kind and three numbers.
+pub type Call = [u8; 4];
+
+/// What a list of calls needs to know of a policy.
+pub struct Subject {
+    objects: u8,
+    users: Vec<u8>,
+    edges: Vec<[u8; 3]>,
+    methods: u8,
+    principals: usize,
+}
+
+/// A list that is being made.
+struct Making<'a> {
+    random: &'a mut Random,
+    subject: &'a Subject,
+    calls: Vec<Call>,
+    /// The pair of the last run of questions.
+    pair: (u8, u8),
+    /// Eager and lazy questions that may still be asked, since the reference weighs every set.
+    questions: usize,
+}
+
+impl Subject {
+    /// Reads it off the lines.
+    pub fn of(lines: &Lines) -> Subject {
+        let of = |kind: u8| lines.iter().filter(move |line| line[0] == kind);
+        Subject {
+            objects: lines[0][2],
+            users: of(2).map(|line| line[1]).collect(),
+            edges: of(3).map(|line| [line[1], line[2], line[3]]).collect(),
+            methods: of(10).count() as u8,
+            principals: of(7).count(),
+        }
+    }
+
+    /// A list of about so many calls: runs of questions on one pair, with edits between.
+    pub fn calls(&self, random: &mut Random, length: usize) -> Vec<Call> {
+        let pair = (0, self.users.first().copied().unwrap_or(0));
+        let mut making = Making {
+            random,
+            subject: self,
+            calls: Vec::new(),
+            pair,
+            questions: ((1 << 22) >> self.principals).clamp(1, 30),
+        };
+        while making.calls.len() < length {
+            making.section();
+        }
+        making.calls
+    }
+}
+
+impl Making<'_> {
+    /// One or several calls that belong together.
+    fn section(&mut self) {
+        let crowded = self.subject.edges.len() >= 508;
+        match self.random.below(12) {
+            0..=2 if crowded => self.several_adds(),
+            0..=5 => self.questions_on_one_pair(),
+            6 => self.question_amiss(),
+            7 => self.edit_amiss(),
+            8 => self.add_and_undo(),
+            9 => self.remove_and_undo(),
+            10 => self.any_edit(),
+            _ => self.anything(),
+        }
+    }
+
+    /// An object: mostly one that edges or users know of, so that relations reach it.
+    fn object(&mut self) -> u8 {
+        let edges = &self.subject.edges;
+        match self.random.below(8) {
+            0 => 0,
+            1 => self.random.below(self.subject.objects.into()) as u8,
+            2 => self.user(),
+            _ if edges.is_empty() => self.random.below(self.subject.objects.into()) as u8,
+            _ => {
+                let [_, from, to] = self.random.pick(edges);
+                self.random.pick(&[from, from, to])
+            }
+        }
+    }
+
+    /// A requestor who is a user, if there is any.
+    fn user(&mut self) -> u8 {
+        match &self.subject.users[..] {
+            [] => 0,
+            users => self.random.pick(users),
+        }
+    }
+
+    /// Eager or lazy while there are questions left, then liberal or strict.
+    fn question_kind(&mut self) -> u8 {
+        let ask = self.questions > 0 && !self.random.one_in(4);
+        if !ask {
+            return self.random.pick(&[4, 5]);
+        }
+        self.questions -= 1;
+        self.random.pick(&[2, 3])
+    }
+
+    /// Several questions about one object by one requestor, so that the memo is used; half the
+    /// time the pair of the last run, so that what came between may or may not have kept it.
+    fn questions_on_one_pair(&mut self) {
+        if self.random.one_in(2) {
+            self.pair = (self.object(), self.user());
+        }
+        let (object, requestor) = self.pair;
+        for _ in 0..self.random.between(1, 5) {
+            let kind = self.question_kind();
+            let method = self.random.below(self.subject.methods.into()) as u8;
+            self.calls.push([kind, method, object, requestor]);
+        }
+    }
+
+    /// A question with one or more numbers out of range.
+    fn question_amiss(&mut self) {
+        let kind = self.random.octet_between(2, 5);
+        let mut call = [kind, 0, self.object(), self.user()];
+        call[1] = self.random.below(self.subject.methods.into()) as u8;
+        for _ in 0..self.random.between(1, 2) {
+            let any = self.random.octet();
+            let place = self.random.between(1, 3);
+            let limit = [0, self.subject.methods, self.subject.objects, any][place];
+            call[place] = self.random.pick(&[limit, limit, 255, any]);
+        }
+        self.calls.push(call);
+    }
+
+    /// An edit with one number out of range, mostly just so.
+    fn edit_amiss(&mut self) {
+        let [label, from, to] = self.new_edge();
+        let mut call = [self.random.octet_between(0, 1), label, from, to];
+        let place = self.random.between(1, 3);
+        let limit = [0, 16, self.subject.objects, self.subject.objects][place];
+        call[place] = self.random.octet_between(limit, 255);
+        self.calls.push(call);
+    }
+
+    /// An edge in range, with a label in use most of the time.
+    fn new_edge(&mut self) -> [u8; 3] {
+        let any = self.random.octet_between(0, 15);
+        let label = self.old_edge().map_or(any, |edge| edge[0]);
+        let label = self.random.pick(&[label, label, any]);
+        [label, self.object(), self.object()]
+    }
+
+    /// An edge of the bundle, if there is any.
+    fn old_edge(&mut self) -> Option<[u8; 3]> {
+        match &self.subject.edges[..] {
+            [] => None,
+            edges => Some(self.random.pick(edges)),
+        }
+    }
+
+    /// The call that adds (0) or removes (1) an edge.
+    fn edit(&mut self, kind: u8, [label, from, to]: [u8; 3]) {
+        self.calls.push([kind, label, from, to]);
+    }
+
+    /// Adds an edge, asks about its ends, and mostly takes it away again.
+    fn add_and_undo(&mut self) {
+        let edge = self.new_edge();
+        self.edit(0, edge);
+        self.question_about(edge);
+        let kind = self.random.pick(&[0, 1, 1]);
+        self.edit(kind, edge);
+        self.question_about(edge);
+    }
+
+    /// Adds up to six edges, which fills a graph that is nearly full.
+    fn several_adds(&mut self) {
+        for _ in 0..self.random.between(1, 6) {
+            let [label, from, to] = [16, self.subject.objects, self.subject.objects]
+                .map(|bound| self.random.below(bound.into()) as u8);
+            self.edit(0, [label, from, to]);
+        }
+    }
+
+    /// Removes an edge, asks about its ends, and mostly puts it back.
+    fn remove_and_undo(&mut self) {
+        if let Some(edge) = self.old_edge() {
+            self.edit(1, edge);
+            self.question_about(edge);
+            let kind = self.random.pick(&[0, 0, 1]);
+            self.edit(kind, edge);
+            self.question_about(edge);
+        }
+    }
+
+    /// A question on one end of an edge, perhaps by the other end.
+    fn question_about(&mut self, [_, from, to]: [u8; 3]) {
+        let kind = self.question_kind();
+        let method = self.random.below(self.subject.methods.into()) as u8;
+        let user = self.user();
+        let requestor = self.random.pick(&[to, user, user]);
+        let object = self.random.pick(&[from, from, to]);
+        self.calls.push([kind, method, object, requestor]);
+    }
+
+    /// An edit of a known edge or a new one, whether it can be done or not.
+    fn any_edit(&mut self) {
+        let new = self.new_edge();
+        let old = self.old_edge().unwrap_or(new);
+        let kind = self.random.octet_between(0, 1);
+        let edge = self.random.pick(&[new, old]);
+        self.edit(kind, edge);
+    }
+
+    /// Any edit, predicate or unknown kind with any numbers.
+    fn anything(&mut self) {
+        let [x, y, z, above] = self.random.next().to_be_bytes()[..4] else {
+            return;
+        };
+        let kind = self.random.pick(&[0, 1, 4, 5, 6, above.max(6)]);
+        self.calls.push([kind, x, y, z]);
+    }
+}

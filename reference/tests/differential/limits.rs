@@ -1,0 +1,49 @@
+//! Which limits of the contract a valid bundle reaches, in the order of `LIMITS`.
+
+use crate::policy::Lines;
+use crate::sizes::LIMITS;
+
+/// Whether each limit is reached; the last is whether all are (1 object aside).
+pub fn reached(lines: &Lines) -> [bool; LIMITS.len()] {
+    let count = |kind: u8| lines.iter().filter(|line| line[0] == kind).count();
+    let any = |kind: u8, place: usize, least: u8| {
+        let mut of_kind = lines.iter().filter(|line| line[0] == kind);
+        of_kind.any(|line| line[place] >= least)
+    };
+    let role_asked = lines.contains(&vec![4, 3, 15, 0]);
+    let mut reached = [
+        lines[0][2] == 1,
+        lines[0][2] == 255,
+        count(2) == 255,
+        count(3) == 512,
+        count(4) == 64,
+        highest(lines) == 8,
+        count(5) == 20,
+        count(6) == 190,
+        count(7) == 20,
+        count(8) == 190,
+        count(9) == 190,
+        count(10) == 32,
+        any(3, 1, 15),
+        any(2, 2, 128) && role_asked,
+        any(5, 1, 128) && any(10, 2, 128),
+        false,
+    ];
+    reached[15] = reached[1..15].iter().all(|&one| one);
+    reached
+}
+
+/// The height of the highest formula.
+fn highest(lines: &Lines) -> u8 {
+    let mut heights: Vec<u8> = Vec::new();
+    for line in lines.iter().filter(|line| line[0] == 4) {
+        let of = |place: usize| heights[usize::from(line[place])];
+        heights.push(match line[1] {
+            4 => 1 + of(2),
+            5 | 6 => 1 + of(2).max(of(3)),
+            7 | 8 => 1 + of(3),
+            _ => 0,
+        });
+    }
+    heights.into_iter().max().unwrap_or(0)
+}

@@ -1,0 +1,234 @@
+//! Hand-made bundles refused with 1 to 9.
+
+mod support;
+
+use support::{
+    bundle, crown, crown_lines, end, many_edges, open, refused, seal, weights, SMALLEST,
+};
+
+/// A head of 3 objects, then the given lines, then the end line.
+fn small(lines: &[&[u8]]) -> Vec<u8> {
+    let mut all = vec![vec![1, 1, 3]];
+    all.extend(lines.iter().map(|line| line.to_vec()));
+    bundle(&all)
+}
+
+/// A head, one line of a numbered kind so many times, and the lines it names before it.
+fn repeated(before: &[Vec<u8>], line: Vec<u8>, count: usize) -> Vec<u8> {
+    let mut all = vec![vec![1, 1, 1]];
+    all.extend_from_slice(before);
+    all.extend(vec![line; count]);
+    bundle(&all)
+}
+
+/// The crown's lines with the line at a place (counted from 1) exchanged.
+fn crown_with(place: usize, line: &[u8]) -> Vec<u8> {
+    let mut lines = crown_lines();
+    lines[place - 1] = line.to_vec();
+    bundle(&lines)
+}
+
+#[test]
+fn number_1_characters() {
+    let cases: [(&[u8], usize); 9] = [
+        (b"\n", 1),
+        (b"02010101FB\n\n", 2),
+        (b"02010101F\n", 1),
+        (b"02010101fb\n", 1),
+        (b"02010101FG\n", 1),
+        (b" 02010101FB \n", 1),
+        (b"02010101FB\r\n", 1),
+        (b"02010101FB", 1),
+        (b"02010101FB\n06FF000100000100F9", 2),
+    ];
+    for (text, line) in cases {
+        assert_eq!(refused(text), (1, line));
+    }
+    assert_eq!(refused(&[SMALLEST, b"\n"].concat()), (1, 3));
+    assert_eq!(refused(&[SMALLEST, b"0"].concat()), (1, 3));
+}
+
+#[test]
+fn numbers_2_and_3_frame() {
+    assert_eq!(refused(b"00\n"), (2, 1));
+    assert_eq!(refused(b"FF01\n"), (2, 1));
+    assert_eq!(refused(b"03010101FA\n"), (2, 1));
+    assert_eq!(refused(b"01010101FC\n"), (2, 1));
+    assert_eq!(
+        refused(&[[b'0'; 2 * 259].as_slice(), b"\n"].concat()),
+        (2, 1)
+    );
+    assert_eq!(refused(b"02010101FC\n"), (3, 1));
+    assert_eq!(refused(b"02010101FB\n06FF000100000100F8\n"), (3, 2));
+    assert_eq!(refused(&[SMALLEST, b"000000\n"].concat()), (4, 3));
+}
+
+#[test]
+fn number_4_places() {
+    assert_eq!(refused(&seal(&[0])), (4, 1));
+    assert_eq!(refused(&seal(&[2, 0, 0, 0])), (4, 1));
+    assert_eq!(refused(&seal(&end(&[]))), (4, 1));
+    assert_eq!(refused(&seal(&[1, 1, 1, 1])), (4, 1));
+    assert_eq!(refused(&small(&[&[1, 1, 3]])), (4, 2));
+    assert_eq!(refused(&small(&[&[0x0B, 0, 0]])), (4, 2));
+    assert_eq!(refused(&small(&[&[0xFE, 0, 0]])), (4, 2));
+    assert_eq!(refused(&small(&[&[2, 0, 0]])), (4, 2));
+    assert_eq!(refused(&small(&[&[3, 0, 0, 0], &[2, 0, 0, 0]])), (4, 3));
+    assert_eq!(refused(&small(&[&[4, 0, 0, 0], &[1, 1, 3]])), (4, 3));
+    let again = seal(&[1, 1, 1]);
+    assert_eq!(refused(&[SMALLEST, &again].concat()), (4, 3));
+    let second_end = seal(&end(&[vec![1, 1, 1]]));
+    assert_eq!(refused(&[SMALLEST, &second_end].concat()), (4, 3));
+    assert_eq!(refused(&[SMALLEST, b"02010101FC\n"].concat()), (3, 3));
+}
+
+#[test]
+fn number_5_limits() {
+    let formula = vec![4, 0, 0, 0];
+    let demarcation = weights(&[5], u64::MAX);
+    let both = [formula.clone(), demarcation.clone()];
+    assert_eq!(refused(&bundle(&many_edges(512))), (0, 0));
+    assert_eq!(refused(&bundle(&many_edges(513))), (5, 514));
+    assert_eq!(refused(&repeated(&[], formula.clone(), 64)), (0, 0));
+    assert_eq!(refused(&repeated(&[], formula, 65)), (5, 66));
+    assert_eq!(refused(&repeated(&[], demarcation.clone(), 20)), (0, 0));
+    assert_eq!(refused(&repeated(&[], demarcation, 21)), (5, 22));
+    assert_eq!(refused(&repeated(&both, vec![7, 0, 0], 20)), (0, 0));
+    assert_eq!(refused(&repeated(&both, vec![7, 0, 0], 21)), (5, 24));
+    assert_eq!(refused(&repeated(&[], weights(&[10, 0], 0), 32)), (0, 0));
+    assert_eq!(refused(&repeated(&[], weights(&[10, 2], 0), 1)), (6, 2));
+    assert_eq!(refused(&repeated(&[], weights(&[10, 0], 0), 33)), (5, 34));
+}
+
+#[test]
+fn number_6_heads_users_and_edges() {
+    assert_eq!(refused(&seal(&[1, 2, 1])), (6, 1));
+    assert_eq!(refused(&seal(&[1, 0, 1])), (6, 1));
+    assert_eq!(refused(&seal(&[1, 1, 0])), (6, 1));
+    assert_eq!(refused(&small(&[&[2, 3, 0, 0]])), (6, 2));
+    assert_eq!(refused(&small(&[&[3, 16, 0, 0]])), (6, 2));
+    assert_eq!(refused(&small(&[&[3, 0, 3, 0]])), (6, 2));
+    assert_eq!(refused(&small(&[&[3, 0, 0, 3]])), (6, 2));
+    let head = vec![1, 1, 255];
+    assert_eq!(
+        refused(&bundle(&[head.clone(), vec![2, 254, 0, 0]])),
+        (0, 0)
+    );
+    assert_eq!(refused(&bundle(&[head, vec![2, 255, 0, 0]])), (6, 2));
+}
+
+#[test]
+fn number_6_formulas() {
+    let bad: [[u8; 4]; 21] = [
+        [4, 9, 0, 0],
+        [4, 255, 0, 0],
+        [4, 0, 1, 0],
+        [4, 0, 0, 1],
+        [4, 1, 1, 0],
+        [4, 1, 0, 1],
+        [4, 2, 1, 0],
+        [4, 2, 0, 1],
+        [4, 3, 16, 0],
+        [4, 3, 0, 1],
+        [4, 4, 1, 0],
+        [4, 4, 0, 1],
+        [4, 5, 0, 1],
+        [4, 5, 1, 0],
+        [4, 6, 0, 1],
+        [4, 6, 1, 0],
+        [4, 7, 16, 0],
+        [4, 7, 0, 1],
+        [4, 8, 16, 0],
+        [4, 8, 0, 1],
+        [4, 8, 0, 255],
+    ];
+    for line in bad {
+        assert_eq!(refused(&small(&[&[4, 0, 0, 0], &line])), (6, 3));
+    }
+}
+
+#[test]
+fn number_6_height() {
+    for op in 4..=8 {
+        let step = |n: u8| match op {
+            4 => vec![4, 4, n, 0],
+            5 | 6 => vec![4, op, 0, n],
+            _ => vec![4, op, 15, n],
+        };
+        let mut lines = vec![vec![1, 1, 1], vec![4, 0, 0, 0]];
+        lines.extend((0..8).map(step));
+        assert_eq!(refused(&bundle(&lines)), (0, 0));
+        lines.push(step(8));
+        assert_eq!(refused(&bundle(&lines)), (6, 11));
+    }
+}
+
+#[test]
+fn number_6_names() {
+    let cases: [(usize, &[u8]); 13] = [
+        (14, &[6, 0, 0]),
+        (14, &[6, 0, 3]),
+        (14, &[6, 3, 0]),
+        (15, &[7, 4, 0]),
+        (15, &[7, 0, 3]),
+        (18, &[8, 0, 0]),
+        (18, &[8, 1, 0]),
+        (18, &[8, 0, 3]),
+        (19, &[9, 1, 1]),
+        (19, &[9, 0, 3]),
+        (19, &[9, 3, 0]),
+        (20, &[10, 2, 0, 0, 0, 0, 0, 0, 0, 0]),
+        (20, &[10, 255, 0, 0, 0, 0, 0, 0, 0, 0]),
+    ];
+    for (place, line) in cases {
+        assert_eq!(refused(&crown_with(place, line)), (6, place));
+    }
+}
+
+#[test]
+fn number_7_order() {
+    let cases: [(usize, &[u8]); 5] = [
+        (3, &[2, 1, 0, 0]),
+        (3, &[2, 0, 255, 255]),
+        (5, &[3, 0, 0, 1]),
+        (5, &[3, 0, 0, 0]),
+        (6, &[3, 0, 2, 2]),
+    ];
+    for (place, line) in cases {
+        assert_eq!(refused(&crown_with(place, line)), (7, place));
+    }
+    assert_eq!(refused(&crown()), (0, 0));
+    for (place, line) in [(14, [6, 0, 1]), (18, [8, 0, 1]), (19, [9, 2, 1])] {
+        let mut lines = crown_lines();
+        lines.insert(place, line.to_vec());
+        assert_eq!(refused(&bundle(&lines)), (7, place + 1));
+    }
+}
+
+#[test]
+fn number_8_ends() {
+    assert_eq!(refused(b""), (8, 1));
+    assert_eq!(refused(b"02010101FB\n"), (8, 2));
+    assert_eq!(refused(&open(&crown_lines())), (8, 24));
+    let head = seal(&[1, 1, 1]);
+    for (count, sum) in [(2, 256), (0, 256), (1, 255), (1, 0), (257, 256)] {
+        let mut line = vec![0xFF];
+        line.extend(u16::to_be_bytes(count));
+        line.extend(u32::to_be_bytes(sum));
+        assert_eq!(refused(&[head.clone(), seal(&line)].concat()), (8, 2));
+    }
+}
+
+#[test]
+fn number_9_circles() {
+    let mut lines = crown_lines();
+    lines.insert(14, vec![6, 1, 0]);
+    assert_eq!(refused(&bundle(&lines)), (9, 25));
+    assert_eq!(refused(&open(&lines)), (8, 25));
+    assert_eq!(refused(&[bundle(&lines), b"\n".to_vec()].concat()), (1, 26));
+    let mut lines = crown_lines();
+    lines.splice(18..19, [vec![9, 0, 2], vec![9, 1, 0], vec![9, 2, 1]]);
+    assert_eq!(refused(&bundle(&lines)), (9, 26));
+    lines.remove(18);
+    assert_eq!(refused(&bundle(&lines)), (0, 0));
+}

@@ -1,0 +1,85 @@
+//! A line sealer, and the bundles the tests start from.
+#![allow(dead_code)]
+
+use reference::Policy;
+
+/// The smallest bundle, as the contract prints it.
+pub const SMALLEST: &[u8] = b"02010101FB\n06FF000100000100F9\n";
+
+/// The octets of a line: length, then kind and body as given, then the check octet.
+pub fn octets(line: &[u8]) -> Vec<u8> {
+    let mut octets = vec![(line.len() - 1) as u8];
+    octets.extend_from_slice(line);
+    let sum: u32 = octets.iter().map(|&octet| u32::from(octet)).sum();
+    octets.push(((256 - sum % 256) % 256) as u8);
+    octets
+}
+
+/// The text of a line given as kind and body.
+pub fn seal(line: &[u8]) -> Vec<u8> {
+    let pairs: String = octets(line).iter().map(|o| format!("{o:02X}")).collect();
+    (pairs + "\n").into_bytes()
+}
+
+/// The text of lines without an end line.
+pub fn open(lines: &[Vec<u8>]) -> Vec<u8> {
+    lines.iter().flat_map(|line| seal(line)).collect()
+}
+
+/// The end line, as kind and body, for these lines.
+pub fn end(lines: &[Vec<u8>]) -> Vec<u8> {
+    let all = lines.iter().flat_map(|line| octets(line));
+    let sum: u32 = all.map(u32::from).sum();
+    let mut end = vec![0xFF];
+    end.extend((lines.len() as u16).to_be_bytes());
+    end.extend(sum.to_be_bytes());
+    end
+}
+
+/// The text of lines with their end line.
+pub fn bundle(lines: &[Vec<u8>]) -> Vec<u8> {
+    [open(lines), seal(&end(lines))].concat()
+}
+
+/// A line of the given beginning followed by 8 octets of privilege weights.
+pub fn weights(beginning: &[u8], privileges: u64) -> Vec<u8> {
+    [beginning, &privileges.to_be_bytes()].concat()
+}
+
+/// The lines of the section "The crown table".
+pub fn crown_lines() -> Vec<Vec<u8>> {
+    let mut lines = vec![vec![1, 1, 3], vec![2, 1, 0, 1], vec![2, 2, 0, 0]];
+    lines.extend([[3, 0, 0, 1], [3, 1, 0, 1], [3, 1, 0, 2]].map(Vec::from));
+    lines.extend([[4, 1, 0, 0], [4, 7, 0, 0], [4, 7, 1, 0], [4, 3, 0, 0]].map(Vec::from));
+    lines.extend([1, 2, 4].map(|privileges| weights(&[5], privileges)));
+    lines.push(vec![6, 0, 1]);
+    lines.extend([[7, 1, 2], [7, 2, 1], [7, 3, 0]].map(Vec::from));
+    lines.push(vec![8, 0, 1]);
+    lines.push(vec![9, 2, 1]);
+    lines.extend([(1, 3), (0, 4), (1, 0), (1, 7)].map(|(form, all)| weights(&[10, form], all)));
+    lines
+}
+
+/// The crown's bundle.
+pub fn crown() -> Vec<u8> {
+    bundle(&crown_lines())
+}
+
+/// A head of 32 objects and so many edges, rising.
+pub fn many_edges(count: u16) -> Vec<Vec<u8>> {
+    let edge = |n: u16| match n {
+        512 => vec![3, 15, 1, 0],
+        _ => vec![3, (n / 32) as u8, 0, (n % 32) as u8],
+    };
+    let mut lines = vec![vec![1, 1, 32]];
+    lines.extend((0..count).map(edge));
+    lines
+}
+
+/// Number and line of a refusal, or (0, 0) for a bundle that loads.
+pub fn refused(text: &[u8]) -> (u8, usize) {
+    match Policy::load(text) {
+        Ok(_) => (0, 0),
+        Err(refusal) => (refusal.number, refusal.line),
+    }
+}
