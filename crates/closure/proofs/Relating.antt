@@ -1,6 +1,6 @@
 -- The loop of `related`: after e pairs the relation is what these pairs make. A pair is put in, or passed over where it names a thing above 19.
 use Prim.Native.Nat.{ℕ, _+_, _≤_, _<_}
-use mathlib.Core.Path.{_≡_, refl, sym, _∙_, ap, subst₂}
+use mathlib.Core.Path.{refl, sym, _∙_, ap, subst₂}
 use mathlib.Core.Logic.{_↔_, _⊎_, inl, inr, ⊎-elim}
 use mathlib.Core.Bool.{Bool, true, false, false≢true}
 use mathlib.Core.List.{List, []}

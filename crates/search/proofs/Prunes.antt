@@ -11,7 +11,7 @@ use lib.Bits.{bitAnd, bitOr, and-comm, and-step}
 use lib.Count.{ones, ones-step, ones-cat, ones-le}
 use Rattle.common.specs.Lists.{at}
 use Rattle.common.specs.Sets.{In, Apart, Within}
-use Rattle.common.specs.SetLaws.{in-or-out, none-in-zero, some-in, and-in-l, within-and, or-in, in-lt, in-ge, in-pow, pow-in, in-sum-l, in-sum-r, sum-in}
+use Rattle.common.specs.SetLaws.{le-or-lt, in-or-out, none-in-zero, some-in, and-in-l, within-and, or-in, in-lt, in-ge, in-pow, pow-in, in-sum-l, in-sum-r, sum-in}
 use Rattle.search.specs.declared.Masks.{Masks}
 use Rattle.search.specs.declared.Found.the-variants.{Nothing}
 use Rattle.search.specs.Search.{Met, Least}
@@ -74,11 +74,12 @@ module _ {r : Masks} {limit s b : ℕ} where
   pub past-all : {x p : ℕ} → r .count ≤ p → NoneFrom r limit s b x p
   past-all c t h q l i g = omega (arith, in-lt (r .count) i (h .candidate .inside))
 
-  pub gives-none : {x : ℕ} (p : ℕ) → (MetBy false x (at (r .grants) p) → ⊥) → NoneFrom r limit s b x (p + 1) → NoneFrom r limit s b x p
-  gives-none p f n t h q l i g = ⊎-elim
-      (λ e. f (g .privilege, g .asked, subst (λ (z : ℕ). In (g .privilege) (at (r .grants) z)) (sym e) (g .given)))
-      (λ u. n t h q (omega arith) i g)
-      (eq-or-lt-of-le l)
+  -- none from p up to g gives any
+  pub none-between : {x : ℕ} (p g : ℕ) → ((q : ℕ) → p ≤ q → q < g → MetBy false x (at (r .grants) q) → ⊥) → NoneFrom r limit s b x g → NoneFrom r limit s b x p
+  none-between p g f n t h q l i k = ⊎-elim
+      (λ u. n t h q u i k)
+      (λ u. f q l u (k .privilege, k .asked, k .given))
+      (le-or-lt g q)
 
   -- no candidate has p, and none without p has a later giver
   pub neither-way : {x : ℕ} (p : ℕ) → NoneHolds r limit (bitOr (bitOr s (2 ^ p)) (at (r .needs) p)) b

@@ -6,7 +6,7 @@
 
 ghost use mathlib.Core.Path.{_≡_};
 ghost use mathlib.Core.Bool.{true, false};
-ghost use Prim.Native.Nat.{_+_, _^_, _≤_, _<_};
+ghost use Prim.Native.Nat.{ℕ, _+_, _^_, _≤_, _<_};
 ghost use lib.Bits.{bitOr};
 ghost use lib.Count.{ones};
 ghost use Rattle.common.specs.Lists.{at};
@@ -180,13 +180,13 @@ fn candidate(masks: Masks, s: u32) -> bool
 
 // ---- whether a set can be completed
 
-// Whether p is allowed and excludes no member of s.
-fn calm(masks: Masks, s: u32, p: usize) -> bool
+// Whether p is one of the allowed, and no member of s is one of those that p excludes.
+fn calm(allowed: u32, excluded: u32, s: u32, p: usize) -> bool
     requires { ⌜ p < 20 ⌝ }
-    ensures { λ r. ⌜ Decides r (Calm masks s p) ⌝ }
+    ensures { λ r. ⌜ Decides r ((In p allowed) × (Apart s excluded)) ⌝ }
 {
-    if has(masks.allowed, p) {
-        apart(s, masks.excludes[p])
+    if has(allowed, p) {
+        apart(s, excluded)
     } else {
         false
     }
@@ -201,7 +201,7 @@ fn all_calm(masks: Masks, s: u32) -> bool
     let mut p: usize = 0;
     while p < count {
         if has(s, p) {
-            if !calm(masks, s, p) {
+            if !calm(masks.allowed, masks.excludes[p], s, p) {
                 return false;
             }
         }
@@ -317,7 +317,22 @@ fn possible(
     by_giver(masks, limit, depth, chosen, barred, x, 0)
 }
 
-// The same of the candidates with a member from p on that gives some of x: with p, if p does; then, p barred, with a later one.
+// The first principal from p on that gives some of x; the count, or p where it is beyond, if there is none.
+fn next_giver(count: usize, grants: [u64; 20], x: u64, p: usize) -> usize
+    requires { ⌜ count ≤ 20 ⌝ }
+    ensures { λ r. ⌜ (p ≤ r) × ((q : ℕ) → p ≤ q → q < r → MetBy false x (at grants q) → ⊥) ⌝ }
+{
+    let mut g = p;
+    while g < count {
+        if meets(false, x, grants[g]) {
+            return g;
+        }
+        g += 1;
+    }
+    g
+}
+
+// The same of the candidates with a member from p on that gives some of x: with the first that does; then, that one barred, with a later one.
 fn by_giver(
     masks: Masks,
     limit: usize,
@@ -330,20 +345,19 @@ fn by_giver(
     requires { ⌜ (masks .count ≤ 20) × (0 < depth) ⌝ }
     ensures { λ r. ⌜ (r ≡ false → NoneFrom masks limit chosen barred x p) ⌝ }
 {
-    if masks.count <= p {
+    let grants = masks.grants;
+    let g = next_giver(masks.count, grants, x, p);
+    if masks.count <= g {
         return false;
     }
-    if !meets(false, x, masks.grants[p]) {
-        return by_giver(masks, limit, depth, chosen, barred, x, p + 1);
-    }
-    let grown = with_needs(masks, add(chosen, p), p);
+    let grown = add(chosen, g) | masks.needs[g];
     if fits(masks, limit, grown, barred) {
-        let given = granted_by(masks, grown);
+        let given = gathered(masks.count, grown, grants);
         if possible(masks, limit, depth - 1, grown, given, barred) {
             return true;
         }
     }
-    by_giver(masks, limit, depth, chosen, add(barred, p), x, p + 1)
+    by_giver(masks, limit, depth, chosen, add(barred, g), x, g + 1)
 }
 
 // False only where no candidate of at most limit members holds s and none of barred.

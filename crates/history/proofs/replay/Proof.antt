@@ -4,7 +4,6 @@ use mathlib.Core.Path.{_≡_, sym, _∙_, ap}
 use native.Mathlib.Omega.{arith}
 use lib.ListN.{length}
 use borrow.Author.Needs.{needs}
-use Rattle.policy.specs.declared.Record.{Record}
 use Rattle.policy.specs.Loadable.{loadable}
 use Rattle.access.specs.declared.Answer.{Answer}
 use Rattle.history.specs.LoadLaws.{answer-loads}

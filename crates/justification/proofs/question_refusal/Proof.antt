@@ -6,7 +6,6 @@ use borrow.Author.Tests.{not-true, not-false}
 use Rattle.policy.specs.Table.{user}
 use Rattle.policy.specs.LoadableLaws.{table-few, loadable-table}
 use Rattle.justification.proofs.Asking.{not-loadable, no-method, no-object, not-user, may-ask}
-use borrow.Author.Needs.{needs}
 use Rattle.justification.proofs.question_refusal.Statement.{statement}
 use Rattle.justification.proofs.question_refusal.Tie as tie
 

@@ -1,15 +1,14 @@
 -- `possible` and `by_giver` call one another and meet their contracts: at depth d the measures are 22d + 21 and 22d + (20 - p).
 use native.Mathlib.Omega.{arith}
-use mathlib.Core.Path.{_≡_, ap, subst, _∙_}
+use mathlib.Core.Path.{subst}
 use mathlib.Core.Logic.{⊎-elim}
-use Prim.Native.Nat.{ℕ, _+_, _-_, _*_, _^_, _<_}
-use borrow.Author.Needs.{needs}
-use borrow.Author.Tests.{not-true}
+use Prim.Native.Nat.{ℕ, _+_, _-_, _*_, _<_}
 use lib.Bits.{bitOr}
 use Rattle.common.specs.Lists.{at}
 use Rattle.search.specs.Steps.{NoneHolds, NoneFrom}
 use Rattle.search.proofs.Decide.{true-not-false}
-use Rattle.search.proofs.Prunes.{none-wanted, no-giver, past-all, gives-none, neither-way}
+use Rattle.search.proofs.Prunes.{none-wanted, no-giver, past-all, none-between, neither-way}
+use borrow.Author.Needs.{needs}
 use borrow.Fn.Kinds.{In}
 use borrow.Fn.PlainCycle.{Measures, is, falls, and}
 use Rattle.search.proofs.by_giver.Reads as by-giver
@@ -21,9 +20,9 @@ use Rattle.search.proofs.+by_giver+possible.Lts-possible as possible-lt
 use Rattle.search.proofs.add.Reads as add-reads
 use Rattle.search.proofs.asked.Reads as asked-reads
 use Rattle.search.proofs.fits.Reads as fits-reads
-use Rattle.search.proofs.granted_by.Reads as granted-by-reads
+use Rattle.search.proofs.gathered.Reads as gathered-reads
 use Rattle.search.proofs.meets.Reads as meets-reads
-use Rattle.search.proofs.with_needs.Reads as with-needs-reads
+use Rattle.search.proofs.next_giver.Reads as next-giver-reads
 use Rattle.search.proofs.+by_giver+possible.{statement}
 use Rattle.search.proofs.+by_giver+possible.Tie.{close}
 
@@ -49,60 +48,53 @@ possible-below t =
 
 abbrev giver-claims : ℕ → by-giver-lts.Claims
 giver-claims t = (
-  meets-reads.Asked,
-  meets-reads.Learnt,
-  by-giver-below t,
-  by-giver.Post,
+  next-giver-reads.Asked,
+  next-giver-reads.Learnt,
   add-reads.Asked,
   add-reads.Learnt,
-  with-needs-reads.Asked,
-  with-needs-reads.Learnt,
   fits-reads.Asked,
   fits-reads.Learnt,
-  granted-by-reads.Asked,
-  granted-by-reads.Learnt,
+  gathered-reads.Asked,
+  gathered-reads.Learnt,
   possible-below t,
   possible.Post,
+  by-giver-below t,
+  by-giver.Post,
 )
 
 abbrev possible-claims : ℕ → possible-lts.Claims
-possible-claims t = (meets-reads.Asked, meets-reads.Learnt, asked-reads.Asked, asked-reads.Learnt, by-giver-below t, by-giver.Post)
+possible-claims t = (
+  meets-reads.Asked,
+  meets-reads.Learnt,
+  asked-reads.Asked,
+  asked-reads.Learnt,
+  by-giver-below t,
+  by-giver.Post,
+)
+
+by-giver-next-giver-requires : (t : ℕ) → by-giver-lts.Need-next-giver-requires (giver-claims t) (by-giver-at t) by-giver.Post
+by-giver-next-giver-requires t c κs = search needs
 
 by-giver-returns : (t : ℕ) → by-giver-lts.Need-returns (giver-claims t) (by-giver-at t) by-giver.Post
-by-giver-returns t c = λ e. past-all (c .if1 .taken)
-
-by-giver-mul-meets : (t : ℕ) → by-giver-lts.Need-mul-meets (giver-claims t) (by-giver-at t) by-giver.Post
-by-giver-mul-meets t c = search needs
-
-by-giver-element-copy-out-meets : (t : ℕ) → by-giver-lts.Need-element-copy-out-meets (giver-claims t) (by-giver-at t) by-giver.Post
-by-giver-element-copy-out-meets t c = search needs
-
-by-giver-meets-requires : (t : ℕ) → by-giver-lts.Need-meets-requires (giver-claims t) (by-giver-at t) by-giver.Post
-by-giver-meets-requires t c κs = search needs
-
-by-giver-add-by-giver : (t : ℕ) → by-giver-lts.Need-add-by-giver (giver-claims t) (by-giver-at t) by-giver.Post
-by-giver-add-by-giver t c = search needs
-
-by-giver-by-giver-requires : (t : ℕ) → by-giver-lts.Need-by-giver-requires (giver-claims t) (by-giver-at t) by-giver.Post
-by-giver-by-giver-requires t c κs = search needs
-
-by-giver-returns-2 : (t : ℕ) → by-giver-lts.Need-returns-2 (giver-claims t) (by-giver-at t) by-giver.Post
-by-giver-returns-2 t c =
-    let met = c .before .before in
-    let a = met .before .before .before .args in
-    λ e. gives-none (a .p) (met .meets .ensures .no (not-true _ (c .before .if2 .taken))) (c .by-giver .ensures e)
+by-giver-returns t c =
+    let n = c .before in
+    let a = n .before .before .args in
+    λ e. none-between (a .p) (n .next-giver .result) (n .next-giver .ensures .1) (past-all (c .if1 .taken))
 
 by-giver-add-requires : (t : ℕ) → by-giver-lts.Need-add-requires (giver-claims t) (by-giver-at t) by-giver.Post
 by-giver-add-requires t c κs = search needs
 
-by-giver-with-needs-requires : (t : ℕ) → by-giver-lts.Need-with-needs-requires (giver-claims t) (by-giver-at t) by-giver.Post
-by-giver-with-needs-requires t c κs = search needs
+by-giver-mul-grown : (t : ℕ) → by-giver-lts.Need-mul-grown (giver-claims t) (by-giver-at t) by-giver.Post
+by-giver-mul-grown t c = search needs
+
+by-giver-element-copy-out-grown : (t : ℕ) → by-giver-lts.Need-element-copy-out-grown (giver-claims t) (by-giver-at t) by-giver.Post
+by-giver-element-copy-out-grown t c = search needs
 
 by-giver-fits-requires : (t : ℕ) → by-giver-lts.Need-fits-requires (giver-claims t) (by-giver-at t) by-giver.Post
 by-giver-fits-requires t c κs = search needs
 
-by-giver-granted-by-requires : (t : ℕ) → by-giver-lts.Need-granted-by-requires (giver-claims t) (by-giver-at t) by-giver.Post
-by-giver-granted-by-requires t c κs = search needs
+by-giver-gathered-requires : (t : ℕ) → by-giver-lts.Need-gathered-requires (giver-claims t) (by-giver-at t) by-giver.Post
+by-giver-gathered-requires t c κs = search needs
 
 by-giver-sub-possible : (t : ℕ) → by-giver-lts.Need-sub-possible (giver-claims t) (by-giver-at t) by-giver.Post
 by-giver-sub-possible t c = search needs
@@ -110,31 +102,31 @@ by-giver-sub-possible t c = search needs
 by-giver-possible-requires : (t : ℕ) → by-giver-lts.Need-possible-requires (giver-claims t) (by-giver-at t) by-giver.Post
 by-giver-possible-requires t c κs = search needs
 
-by-giver-returns-3 : (t : ℕ) → by-giver-lts.Need-returns-3 (giver-claims t) (by-giver-at t) by-giver.Post
-by-giver-returns-3 t c = λ e. absurd (true-not-false e)
+by-giver-returns-2 : (t : ℕ) → by-giver-lts.Need-returns-2 (giver-claims t) (by-giver-at t) by-giver.Post
+by-giver-returns-2 t c = λ e. absurd (true-not-false e)
 
 by-giver-add-requires-2 : (t : ℕ) → by-giver-lts.Need-add-requires-2 (giver-claims t) (by-giver-at t) by-giver.Post
 by-giver-add-requires-2 t c κs = search needs
 
-by-giver-add-by-giver-2 : (t : ℕ) → by-giver-lts.Need-add-by-giver-2 (giver-claims t) (by-giver-at t) by-giver.Post
-by-giver-add-by-giver-2 t c = search needs
+by-giver-add-by-giver : (t : ℕ) → by-giver-lts.Need-add-by-giver (giver-claims t) (by-giver-at t) by-giver.Post
+by-giver-add-by-giver t c = search needs
 
-by-giver-by-giver-requires-2 : (t : ℕ) → by-giver-lts.Need-by-giver-requires-2 (giver-claims t) (by-giver-at t) by-giver.Post
-by-giver-by-giver-requires-2 t c κs = search needs
+by-giver-by-giver-requires : (t : ℕ) → by-giver-lts.Need-by-giver-requires (giver-claims t) (by-giver-at t) by-giver.Post
+by-giver-by-giver-requires t c κs = search needs
 
-by-giver-returns-4 : (t : ℕ) → by-giver-lts.Need-returns-4 (giver-claims t) (by-giver-at t) by-giver.Post
-by-giver-returns-4 t c =
+by-giver-returns-3 : (t : ℕ) → by-giver-lts.Need-returns-3 (giver-claims t) (by-giver-at t) by-giver.Post
+by-giver-returns-3 t c =
     let joined = c .before .before in
     let tested = joined .before in
-    let grown = tested .before in
-    let added = grown .before in
-    let a = added .before .before .before .before .before .args in
-    let is : grown .with-needs .result ≡ bitOr (bitOr (a .chosen) (2 ^ (a .p))) (at (a .t1 .needs) (a .p)) =
-    grown .with-needs .ensures ∙ ap (λ (z : ℕ). bitOr z (at (a .t1 .needs) (a .p))) (added .add .ensures) in
-    λ e. neither-way (a .p)
-    (subst (λ (z : ℕ). NoneHolds (a .t1) (a .limit) z (a .barred)) is
-    (⊎-elim (λ w. w .2 .ensures (w .3 .left)) (λ w. tested .fits2 .ensures (w .left)) (joined .if3 .came)))
-    (subst (λ (z : ℕ). NoneFrom (a .t1) (a .limit) (a .chosen) z (a .x) (a .p + 1)) (c .before .add2 .ensures) (c .by-giver2 .ensures e))
+    let added = tested .before .before in
+    let n = added .before .before in
+    let a = n .before .before .args in
+    let g = n .next-giver .result in
+    λ e. none-between (a .p) g (n .next-giver .ensures .1)
+    (neither-way g
+    (subst (λ (z : ℕ). NoneHolds (a .t1) (a .limit) (bitOr z (at (a .t1 .needs) g)) (a .barred)) (added .add .ensures)
+    (⊎-elim (λ w. w .2 .ensures (w .3 .left)) (λ w. tested .fits2 .ensures (w .left)) (joined .if2 .came)))
+    (subst (λ (z : ℕ). NoneFrom (a .t1) (a .limit) (a .chosen) z (a .x) (g + 1)) (c .before .add2 .ensures) (c .by-giver .ensures e)))
 
 possible-meets-requires : (t : ℕ) → possible-lts.Need-meets-requires (possible-claims t) (possible-at t) possible.Post
 possible-meets-requires t c κs = search needs
@@ -161,25 +153,28 @@ pub +by-giver+possible-spec : {M : Type 1} → statement M
 +by-giver+possible-spec = close μ-by-giver μ-possible (λ t. by-giver-lts.spec (giver-claims t)
     (by-giver-at t)
     by-giver.Post
+    (by-giver-next-giver-requires t)
     (by-giver-returns t)
-    (by-giver-mul-meets t)
-    (by-giver-element-copy-out-meets t)
-    (by-giver-meets-requires t)
-    (by-giver-add-by-giver t)
-    (by-giver-by-giver-requires t)
-    (by-giver-returns-2 t)
     (by-giver-add-requires t)
-    (by-giver-with-needs-requires t)
+    (by-giver-mul-grown t)
+    (by-giver-element-copy-out-grown t)
     (by-giver-fits-requires t)
-    (by-giver-granted-by-requires t)
+    (by-giver-gathered-requires t)
     (by-giver-sub-possible t)
     (by-giver-possible-requires t)
-    (by-giver-returns-3 t)
+    (by-giver-returns-2 t)
     (by-giver-add-requires-2 t)
-    (by-giver-add-by-giver-2 t)
-    (by-giver-by-giver-requires-2 t)
-    (by-giver-returns-4 t))
-    λ t. possible-lts.spec (possible-claims t)
+    (by-giver-add-by-giver t)
+    (by-giver-by-giver-requires t)
+    (by-giver-returns-3 t))
+    λ t. possible-lts.spec (
+      meets-reads.Asked,
+      meets-reads.Learnt,
+      asked-reads.Asked,
+      asked-reads.Learnt,
+      by-giver-below t,
+      by-giver.Post,
+    )
     (possible-at t)
     possible.Post
     (possible-meets-requires t)

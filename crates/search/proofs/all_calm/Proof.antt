@@ -20,13 +20,19 @@ loop-holds c = omega arith
 has-requires : tie.Need-has-requires Inv-loop μ-loop
 has-requires c κs = omega arith
 
+mul-calm : tie.Need-mul-calm Inv-loop μ-loop
+mul-calm c = omega arith
+
+element-copy-out-calm : tie.Need-element-copy-out-calm Inv-loop μ-loop
+element-copy-out-calm c = omega arith
+
 calm-requires : tie.Need-calm-requires Inv-loop μ-loop
 calm-requires c κs = omega arith
 
 returns : tie.Need-returns Inv-loop μ-loop
 returns c =
-    let then1 = c .before .before in
-    λ e f. c .before .calm .ensures .no (not-true _ (c .if2 .taken)) (f _ (then1 .before .has .ensures .yes (then1 .if1 .taken)))
+    let then1 = c .before .before .before in
+    λ e f. c .before .calm .ensures .no (not-true _ (c .if2 .taken)) (let g = f _ (then1 .before .has .ensures .yes (then1 .if1 .taken)) in (g .permitted, g .apart))
 
 add-p : tie.Need-add-p Inv-loop μ-loop
 add-p c = omega arith
@@ -48,6 +54,8 @@ all-calm-spec =
     μ-loop
     loop-holds
     has-requires
+    mul-calm
+    element-copy-out-calm
     calm-requires
     returns
     add-p

@@ -9,27 +9,21 @@ use Rattle.search.proofs.has.Reads as has-reads
 has-requires : tie.Need-has-requires
 has-requires c κs = search needs
 
-mul-apart : tie.Need-mul-apart
-mul-apart c = search needs
-
-element-copy-out-apart : tie.Need-element-copy-out-apart
-element-copy-out-apart c = search needs
-
 apart-requires : tie.Need-apart-requires
 apart-requires c κs = search needs
 
 returns : tie.Need-returns
 returns c =
-    let then1 = c .before .before in
+    let then1 = c .before in
     record {
-      yes = λ t. record { permitted = then1 .before .has .ensures .yes (then1 .if1 .taken); apart = c .apart .ensures .yes t };
-      no = λ t g. c .apart .ensures .no t (g .apart);
+      yes = λ t. (then1 .before .has .ensures .yes (then1 .if1 .taken), c .apart .ensures .yes t);
+      no = λ t g. c .apart .ensures .no t (g .1);
     }
 
 returns-2 : tie.Need-returns-2
-returns-2 c = refuted (λ g. c .before .has .ensures .no (c .if1 .left) (g .permitted))
+returns-2 c = refuted (λ g. c .before .has .ensures .no (c .if1 .left) (g .0))
 
 pub calm-spec : {M : Type 1} → statement M
 calm-spec =
     tie.close
-    (tie.spec has-requires mul-apart element-copy-out-apart apart-requires returns returns-2)
+    (tie.spec has-requires apart-requires returns returns-2)

@@ -1,0 +1,101 @@
+//! How fast the engine is beside the reference, as ratios from one run.
+//!
+//! Both are called through the same two functions on bytes, in turn within each round, so that both
+//! see the same machine. Times are processor time in microseconds: the median of the rounds, with
+//! the lowest and the highest one. A ratio below 1 means that the engine is faster. Nothing fails
+//! because of time; it fails where the answers differ, since such times would mean nothing.
+
+#[cfg(not(engine))]
+compile_error!("../target/staticlib/libcapi.a is missing: `rt staticlib capi` makes it");
+
+#[path = "ratios/bundles.rs"]
+mod bundles;
+#[path = "ratios/clock.rs"]
+mod clock;
+#[path = "ratios/cover.rs"]
+mod cover;
+#[path = "ratios/edits.rs"]
+mod edits;
+#[path = "ratios/longest.rs"]
+mod longest;
+#[path = "ratios/measure.rs"]
+mod measure;
+#[path = "ratios/mixed.rs"]
+mod mixed;
+#[path = "ratios/questions.rs"]
+mod questions;
+#[path = "ratios/run.rs"]
+mod run;
+#[path = "ratios/spread.rs"]
+mod spread;
+#[path = "ratios/table.rs"]
+mod table;
+#[path = "ratios/tower.rs"]
+mod tower;
+#[path = "ratios/workload.rs"]
+mod workload;
+
+#[path = "../tests/differential/engine.rs"]
+mod engine;
+#[path = "../tests/differential/formulas.rs"]
+mod formulas;
+#[path = "../tests/differential/limits.rs"]
+mod limits;
+#[path = "../tests/differential/policy.rs"]
+mod policy;
+#[allow(dead_code)]
+#[path = "../tests/differential/random.rs"]
+mod random;
+#[allow(dead_code)]
+#[path = "../tests/differential/sizes.rs"]
+mod sizes;
+#[path = "../tests/support/mod.rs"]
+mod support;
+
+use longest::Longest;
+use measure::Row;
+use std::time::Instant;
+use workload::Workload;
+
+/// What one role check of a general role-only library took, in microseconds.
+const ROLE_CHECK: f64 = 5.6;
+
+/// Measures everything and prints the table as it grows.
+fn main() {
+    let start = Instant::now();
+    let mut longest = Longest::default();
+    table::head();
+    section("loading and writing", bundles::workloads(), &mut longest);
+    let crown = section("crown: questions", questions::crown(), &mut longest);
+    section("full policy", questions::full(), &mut longest);
+    tower::section(&mut longest);
+    let covers = cover::workloads(&mut longest);
+    section(cover::TITLE, covers, &mut longest);
+    section("edits", edits::workloads(), &mut longest);
+    section("10,000 mixed calls", mixed::workloads(), &mut longest);
+    longest.print();
+    role_check(&crown);
+    println!("The run took {:.0} s.", start.elapsed().as_secs_f64());
+}
+
+/// Measures and prints workloads under a title, and gives their rows.
+fn section(title: &str, workloads: Vec<Workload>, longest: &mut Longest) -> Vec<Row> {
+    table::title(title);
+    let mut rows = Vec::new();
+    for workload in workloads {
+        longest.consider(title, &workload);
+        let row = measure::row(&workload);
+        table::print(&row);
+        rows.push(row);
+    }
+    rows
+}
+
+/// Puts the crown's lazy questions beside the general library's check.
+fn role_check(crown: &[Row]) {
+    for row in crown.iter().filter(|row| row.name.starts_with("lazy")) {
+        let micros = spread::number(row.engine.median);
+        println!("The crown's question, {}: {micros} µs.", row.name);
+    }
+    println!("  One role check of a general role-only library took {ROLE_CHECK} µs.");
+}

@@ -1,0 +1,87 @@
+//! Rounds in which both implementations take turns.
+
+use crate::run::{Run, ENGINE, REFERENCE};
+use crate::spread::Spread;
+use crate::workload::{Task, Workload};
+
+/// So many rounds are measured, an odd number.
+const ROUNDS: usize = 15;
+
+/// What was measured of a workload.
+pub struct Row {
+    pub name: String,
+    pub engine: Spread,
+    pub reference: Beside,
+    /// Whether it is loading or writing, which may take longer than the reference, within bounds.
+    pub bytes: bool,
+}
+
+/// What stands beside the engine.
+pub enum Beside {
+    /// The reference's times and the rounds' ratios.
+    Measured { micros: Spread, ratio: Spread },
+    /// The reference's time by its growth, where it was not run.
+    Estimated(f64),
+}
+
+/// Both implementations in alternating rounds, each first in every other one.
+pub fn row(workload: &Workload) -> Row {
+    let (mut engine, mut reference) = runs(workload);
+    let mut rounds = Vec::new();
+    for round in 0..ROUNDS {
+        rounds.push(if round % 2 == 0 {
+            let first = engine.round();
+            (first, reference.round())
+        } else {
+            let first = reference.round();
+            (engine.round(), first)
+        });
+    }
+    let figure = |of: fn(&(f64, f64)) -> f64| Spread::of(rounds.iter().map(of).collect());
+    Row {
+        name: workload.name.clone(),
+        engine: figure(|both| both.0),
+        reference: Beside::Measured {
+            micros: figure(|both| both.1),
+            ratio: figure(|both| both.0 / both.1),
+        },
+        bytes: !matches!(workload.task, Task::Answer(_)),
+    }
+}
+
+/// The engine alone, beside an estimate of the reference's time.
+pub fn engine_row(workload: &Workload, estimate: f64) -> Row {
+    let mut engine = Run::of(ENGINE, workload, times(workload).0);
+    let rounds = (0..ROUNDS).map(|_| engine.round()).collect();
+    Row {
+        name: workload.name.clone(),
+        engine: Spread::of(rounds),
+        reference: Beside::Estimated(estimate),
+        bytes: false,
+    }
+}
+
+/// Both runs, once it is certain that they write and answer the same.
+fn runs(workload: &Workload) -> (Run<'_>, Run<'_>) {
+    let (engine, reference) = times(workload);
+    let answers = match &workload.task {
+        Task::Answer(calls) => calls.cycle.len() * engine.min(reference) * 5,
+        _ => 0,
+    };
+    let mut runs = (
+        Run::of(ENGINE, workload, engine),
+        Run::of(REFERENCE, workload, reference),
+    );
+    let (first, second) = (runs.0.results(answers), runs.1.results(answers));
+    assert_eq!(first.0 >> 32, 0, "it loads: {}", workload.name);
+    assert!(first == second, "the answers differ: {}", workload.name);
+    runs
+}
+
+/// How often engine and reference go through the calls.
+fn times(workload: &Workload) -> (usize, usize) {
+    match &workload.task {
+        Task::Answer(calls) => (calls.engine, calls.reference),
+        _ => (0, 0),
+    }
+}

@@ -1,0 +1,81 @@
+//! Questions on the crown and on a full policy.
+
+use crate::bundles::{self, of_kind};
+use crate::policy::Lines;
+use crate::random::Random;
+use crate::support;
+use crate::workload::{Call, Workload, EAGER, LAZY, MOST_CALLS, QUESTIONS};
+
+/// The crown's users.
+const ANA: u8 = 1;
+const BEN: u8 = 2;
+
+/// So many different questions on the full policy keep the reference busy for long enough.
+const SLOW: usize = 100;
+
+/// The crown's questions, with the memo's help and without it.
+pub fn crown() -> Vec<Workload> {
+    let lines = support::crown_lines();
+    let mut workloads = Vec::new();
+    for (kind, name) in QUESTIONS {
+        if matches!(kind, LAZY | EAGER) {
+            let name = format!("{name}, pair repeated");
+            workloads.push(Workload::calls(&name, &lines, repeated(kind)));
+        }
+        let name = format!("{name}, pairs alternating");
+        workloads.push(Workload::calls(&name, &lines, alternating(kind)));
+    }
+    workloads
+}
+
+/// Half the calls by Ana, then half by Ben, methods in turn.
+fn repeated(kind: u8) -> Vec<Call> {
+    let by = |requestor: u8| {
+        let calls = [0, 1, 2, 3].map(|method| [kind, method, 0, requestor]);
+        calls.repeat(MOST_CALLS / 8)
+    };
+    [by(ANA), by(BEN)].concat()
+}
+
+/// Each method by Ana, then by Ben, so that every call empties the memo.
+fn alternating(kind: u8) -> Vec<Call> {
+    let both = |method: u8| [ANA, BEN].map(|requestor| [kind, method, 0, requestor]);
+    (0..4).flat_map(both).collect()
+}
+
+/// Random questions of each kind on the full policy.
+pub fn full() -> Vec<Workload> {
+    let lines = bundles::full();
+    QUESTIONS.map(|kind| full_kind(&lines, kind)).into()
+}
+
+/// Random questions of one kind: few where the reference weighs every set.
+fn full_kind(lines: &Lines, (kind, name): (u8, &str)) -> Workload {
+    let slow = matches!(kind, LAZY | EAGER);
+    let count = if slow { SLOW } else { 1_000 };
+    let mut random = bundles::random(3);
+    let cycle: Vec<Call> = (0..count).map(|_| any(&mut random, lines, kind)).collect();
+    if !slow {
+        return Workload::calls(name, lines, cycle);
+    }
+    let name = format!("{name} ({} of {SLOW} granted)", granted(lines, &cycle));
+    Workload::slow(&name, lines, cycle, 10, 1)
+}
+
+/// A question of a kind with any method, object and user.
+pub fn any(random: &mut Random, lines: &Lines, kind: u8) -> Call {
+    let users = of_kind(lines, 2);
+    let method = random.below(of_kind(lines, 10).len()) as u8;
+    let object = random.below(lines[0][2].into()) as u8;
+    [kind, method, object, users[random.below(users.len())][0]]
+}
+
+/// How many of the questions are granted.
+fn granted(lines: &Lines, cycle: &[Call]) -> usize {
+    let mut answers = vec![0; cycle.len() * 5];
+    crate::engine::replay(&support::bundle(lines), &cycle.concat(), &mut answers);
+    answers
+        .chunks_exact(5)
+        .filter(|answer| answer[0] == 0)
+        .count()
+}

@@ -1,0 +1,67 @@
+//! The table as it is printed.
+
+use crate::measure::{Beside, Row};
+use crate::spread::number;
+
+/// The widths of the columns but the last.
+const NAME: usize = 46;
+const TIME: usize = 27;
+
+/// The line of column names.
+pub fn head() {
+    println!("Times in microseconds of processor time, as median (low-high) of the rounds.");
+    line(
+        "workload",
+        "engine µs",
+        "reference µs",
+        "engine/reference",
+        "goal",
+    );
+}
+
+/// The name of a group of rows.
+pub fn title(text: &str) {
+    println!("{text}");
+}
+
+/// A row that was measured or estimated.
+pub fn print(row: &Row) {
+    let name = format!("  {}", row.name);
+    let engine = row.engine.to_string();
+    match &row.reference {
+        Beside::Measured { micros, ratio } => {
+            let goal = goal(row.bytes, ratio.median);
+            line(
+                &name,
+                &engine,
+                &micros.to_string(),
+                &ratio.to_string(),
+                &goal,
+            );
+        }
+        Beside::Estimated(micros) => {
+            let ratio = row.engine.median / micros;
+            let (time, share) = (estimated(*micros), estimated(ratio));
+            line(&name, &engine, &time, &share, &goal(row.bytes, ratio));
+        }
+    }
+}
+
+/// A number that was not measured, marked as such.
+fn estimated(value: f64) -> String {
+    format!("{} (estimated)", number(value))
+}
+
+/// The goal of a row and whether its ratio keeps it.
+fn goal(bytes: bool, ratio: f64) -> String {
+    let (goal, kept) = match bytes {
+        true => ("≤ 1.5", ratio <= 1.5),
+        false => ("< 1", ratio < 1.0),
+    };
+    format!("{goal:<5} {}", if kept { "met" } else { "missed" })
+}
+
+/// One line of columns.
+fn line(name: &str, engine: &str, reference: &str, ratio: &str, goal: &str) {
+    println!("{name:<NAME$} {engine:<TIME$} {reference:<TIME$} {ratio:<TIME$} {goal}");
+}
