@@ -3,14 +3,15 @@
 
 ghost use mathlib.Core.Path.{_≡_};
 ghost use mathlib.Core.Bool.{Bool, true, false, not, _&&_, _||_};
+ghost use mathlib.Core.List.{List};
 ghost use Prim.Native.Nat.{ℕ, _≤_, _<_};
 ghost use lib.ListN.{length};
 ghost use lib.Dec.{eqb};
 ghost use Rattle.common.specs.Lists.{at};
 ghost use Rattle.common.specs.Sets.{member};
 ghost use Rattle.rows.specs.Op.{opOf};
-ghost use Rattle.formula.specs.Formula.{holdsRole};
-ghost use Rattle.formula.specs.Evaluation.{has, reached, goes, means, trueIn, Sets};
+ghost use Rattle.formula.specs.Formula.{holdsRole, meaning};
+ghost use Rattle.formula.specs.Evaluation.{has, reached, goes, trueIn, Sets};
 use policy::Record;
 
 // What a formula is evaluated in: the edges and formulas of a record, the requestor's roles, the object and the requestor.
@@ -89,17 +90,17 @@ fn union(a: [bool; 256], b: [bool; 256]) -> [bool; 256]
     r
 }
 
-// The vertices that an edge of the label leads to from one that is asked.
-fn mark(
+// The vertices that an edge of the label leads to from one that is asked. The columns are lent, so that none is copied.
+fn mark<'a>(
     n: usize,
-    labels: [u8; 512],
+    labels: &'a [u8; 512],
     label: u8,
-    from: [u8; 512],
-    to: [u8; 512],
-    asked: [bool; 256],
+    from: &'a [u8; 512],
+    to: &'a [u8; 512],
+    asked: &'a [bool; 256],
 ) -> [bool; 256]
     requires { ⌜ n ≤ 512 ⌝ }
-    ensures { λ r. ⌜ ((v : ℕ) → has r v ≡ reached n labels label from to asked v) ⌝ }
+    ensures { λ r. ⌜ ((v : ℕ) → has r v ≡ reached n (now (labels .entry)) label (now (from .entry)) (now (to .entry)) (now (asked .entry)) v) ⌝ }
 {
     let mut r = none();
     let mut i = 0;
@@ -112,18 +113,18 @@ fn mark(
     r
 }
 
-// Of the asked vertices those from which an edge of the label leads to one of `found`.
-fn mark_back(
+// Of the asked vertices those from which an edge of the label leads to one of `found`: the way back of `mark`.
+fn mark_back<'a>(
     n: usize,
-    labels: [u8; 512],
+    labels: &'a [u8; 512],
     label: u8,
-    from: [u8; 512],
-    to: [u8; 512],
-    asked: [bool; 256],
-    found: [bool; 256],
+    from: &'a [u8; 512],
+    to: &'a [u8; 512],
+    asked: &'a [bool; 256],
+    found: &'a [bool; 256],
 ) -> [bool; 256]
     requires { ⌜ n ≤ 512 ⌝ }
-    ensures { λ r. ⌜ ((v : ℕ) → has r v ≡ (has asked v && goes n labels label from to (has found) v)) ⌝ }
+    ensures { λ r. ⌜ ((v : ℕ) → has r v ≡ (has (now (asked .entry)) v && goes n (now (labels .entry)) label (now (from .entry)) (now (to .entry)) (has (now (found .entry))) v)) ⌝ }
 {
     let mut r = none();
     let mut i = 0;
@@ -138,16 +139,17 @@ fn mark_back(
 
 // ---- formulas
 
-// Of the asked vertices those where a formula without parts is true: op 0 to 3, with its a. Of another op none.
-fn plain(q: Setting, op: u8, left: u8, asked: [bool; 256]) -> [bool; 256]
-    ensures { λ r. ⌜ (op ≤ 3 → (b : ℕ) (part : ℕ → ℕ → Bool) (v : ℕ) → has r v ≡ (has asked v && means q (opOf op) left b part v)) × (3 < op → (v : ℕ) → has r v ≡ false) ⌝ }
+// Of the asked vertices those where a formula without parts is true: op 0 to 3, with its a. Of another op none. It takes three
+// numbers in place of the setting, since the edges play no part.
+fn plain(object: u8, requestor: u8, roles: u16, op: u8, left: u8, asked: [bool; 256]) -> [bool; 256]
+    ensures { λ r. ⌜ (op ≤ 3 → (edges : List (List ℕ)) (b : ℕ) (part : ℕ → ℕ → Bool) (v : ℕ) → has r v ≡ (has asked v && meaning (λ x. member x roles) edges object requestor (opOf op) left b part v)) × (3 < op → (v : ℕ) → has r v ≡ false) ⌝ }
 {
     match op {
         0 => asked,
-        1 => only(asked, q.requestor),
-        2 => only(asked, q.object),
+        1 => only(asked, requestor),
+        2 => only(asked, object),
         3 => {
-            if holds_role(q.roles, left) {
+            if holds_role(roles, left) {
                 asked
             } else {
                 none()
@@ -157,27 +159,64 @@ fn plain(q: Setting, op: u8, left: u8, asked: [bool; 256]) -> [bool; 256]
     }
 }
 
-// Of the asked vertices those where formula g is true, if g is below f; else none.
-fn part(q: Setting, f: usize, g: usize, asked: [bool; 256]) -> [bool; 256]
-    requires { ⌜ (q .«edge_count» ≤ 512) × (f < 64) ⌝ }
-    ensures { λ r. ⌜ ((v : ℕ) → has r v ≡ (has asked v && trueIn q f g v)) ⌝ }
-{
-    if g < f { truth(q, g, asked) } else { none() }
-}
-
 // Of the asked vertices those from which an edge, with the label that formula f names, leads to one where its right part is true.
-fn across(q: Setting, f: usize, from: [u8; 512], to: [u8; 512], asked: [bool; 256]) -> [bool; 256]
+// The part is asked only where such an edge leads, so that a level costs two passes over the edges.
+fn ahead(q: Setting, f: usize, asked: [bool; 256]) -> [bool; 256]
     requires { ⌜ (q .«edge_count» ≤ 512) × (f < 64) ⌝ }
-    ensures { λ r. ⌜ ((v : ℕ) → has r v ≡ (has asked v && goes (q .«edge_count») (q .labels) (at (q .lefts) f) from to (trueIn q f (at (q .rights) f)) v)) ⌝ }
+    ensures { λ r. ⌜ ((v : ℕ) → has r v ≡ (has asked v && goes (q .«edge_count») (q .labels) (at (q .lefts) f) (q .sources) (q .targets) (trueIn q f (at (q .rights) f)) v)) ⌝ }
 {
     let n = q.edge_count;
-    let labels = q.labels;
     let a = q.lefts[f];
-    let b = q.rights[f];
-    let marked = mark(n, labels, a, from, to, asked);
-    let g = place(b);
+    let g = place(q.rights[f]);
+    let marked = mark(n, &q.labels, a, &q.sources, &q.targets, &asked);
     let found = part(q, f, g, marked);
-    mark_back(n, labels, a, from, to, asked, found)
+    mark_back(n, &q.labels, a, &q.sources, &q.targets, &asked, &found)
+}
+
+// Of the asked vertices those to which such an edge leads from one where the right part is true: `ahead`, the edges turned round.
+fn behind(q: Setting, f: usize, asked: [bool; 256]) -> [bool; 256]
+    requires { ⌜ (q .«edge_count» ≤ 512) × (f < 64) ⌝ }
+    ensures { λ r. ⌜ ((v : ℕ) → has r v ≡ (has asked v && goes (q .«edge_count») (q .labels) (at (q .lefts) f) (q .targets) (q .sources) (trueIn q f (at (q .rights) f)) v)) ⌝ }
+{
+    let n = q.edge_count;
+    let a = q.lefts[f];
+    let g = place(q.rights[f]);
+    let marked = mark(n, &q.labels, a, &q.targets, &q.sources, &asked);
+    let found = part(q, f, g, marked);
+    mark_back(n, &q.labels, a, &q.targets, &q.sources, &asked, &found)
+}
+
+// Of the asked vertices those where formula g is true, if g is below f; else none. Its own parts must be below g in turn, so that it ends.
+fn part(q: Setting, f: usize, g: usize, asked: [bool; 256]) -> [bool; 256]
+    requires { ⌜ (q .«edge_count» ≤ 512) × (f ≤ 64) ⌝ }
+    ensures { λ r. ⌜ ((v : ℕ) → has r v ≡ (has asked v && trueIn q f g v)) ⌝ }
+{
+    if f <= g {
+        return none();
+    }
+    let op = q.ops[g];
+    let left = q.lefts[g];
+    let a = place(left);
+    let b = place(q.rights[g]);
+    match op {
+        0..=3 => plain(q.object, q.requestor, q.roles, op, left, asked),
+        4 => {
+            let t = part(q, g, a, asked);
+            minus(asked, t)
+        }
+        5 => {
+            let t = part(q, g, a, asked);
+            part(q, g, b, t)
+        }
+        6 => {
+            let t = part(q, g, a, asked);
+            let u = part(q, g, b, asked);
+            union(t, u)
+        }
+        7 => ahead(q, g, asked),
+        8 => behind(q, g, asked),
+        9..=255 => none(),
+    }
 }
 
 // Of the asked vertices those where formula f is true.
@@ -185,40 +224,7 @@ pub fn truth(q: Setting, f: usize, asked: [bool; 256]) -> [bool; 256]
     requires { ⌜ q .«edge_count» ≤ 512 ⌝ }
     ensures { λ r. ⌜ ((v : ℕ) → has r v ≡ (has asked v && trueIn q 64 f v)) ⌝ }
 {
-    if 64 <= f {
-        return none();
-    }
-    let op = q.ops[f];
-    let left = q.lefts[f];
-    let a = place(left);
-    let b = place(q.rights[f]);
-    match op {
-        0..=3 => plain(q, op, left, asked),
-        4 => {
-            let t = part(q, f, a, asked);
-            minus(asked, t)
-        }
-        5 => {
-            let t = part(q, f, a, asked);
-            part(q, f, b, t)
-        }
-        6 => {
-            let t = part(q, f, a, asked);
-            let u = part(q, f, b, asked);
-            union(t, u)
-        }
-        7 => {
-            let from = q.sources;
-            let to = q.targets;
-            across(q, f, from, to, asked)
-        }
-        8 => {
-            let from = q.targets;
-            let to = q.sources;
-            across(q, f, from, to, asked)
-        }
-        9..=255 => none(),
-    }
+    part(q, 64, f, asked)
 }
 
 // Whether formula f is true at the object.

@@ -1,0 +1,342 @@
+/* Both C functions on one input: what must always hold, and the same from the reference. */
+#include <stdio.h>
+#include <stdlib.h>
+#include <string.h>
+
+#include "../include/case_access.h"
+#include "bundle.h"
+#include "cost.h"
+#include "coverage.h"
+#include "guarded.h"
+#include "random.h"
+#include "tally.h"
+
+uint64_t reference_rewrite(const uint8_t *bundle, size_t bundle_length, uint8_t *out, size_t out_length);
+uint64_t reference_replay(const uint8_t *bundle, size_t bundle_length, const uint8_t *calls, size_t calls_length, uint8_t *answers,
+                          size_t answers_length);
+
+static struct area text_area, calls_area, engine_area, reference_area;
+static struct slice text, calls;
+static struct bundle lines;
+
+/* Prints bytes: text as it is where that is asked for, anything else as hexadecimal. */
+static void print(const char *name, struct slice bytes, bool as_text)
+{
+    size_t i;
+
+    fprintf(stderr, "%s (%zu bytes):\n", name, bytes.length);
+    for (i = 0; i < bytes.length; i++) {
+        uint8_t byte = bytes.start[i];
+        bool plain = as_text && (byte == '\n' || (byte >= ' ' && byte < 127));
+        fprintf(stderr, plain ? "%c" : "[%02X]", byte);
+    }
+    fprintf(stderr, "\n");
+}
+
+/* Stops with a message and the case unless a condition holds. */
+static void must(bool holds, const char *what)
+{
+    if (holds)
+        return;
+    fprintf(stderr, "VIOLATION: %s\n", what);
+    print("bundle", text, true);
+    print("calls", calls, false);
+    print("engine's buffer", (struct slice){engine_area.lent, engine_area.length}, false);
+    print("reference's buffer", (struct slice){reference_area.lent, reference_area.length}, false);
+    abort();
+}
+
+/* Puts bytes against a forbidden page, so that a read past them is a crash. */
+static struct slice placed(struct area *area, struct slice bytes)
+{
+    area_lend(area, bytes.length, random_any() & 1, 0);
+    if (bytes.length)
+        memcpy(area->lent, bytes.start, bytes.length);
+    return (struct slice){area->lent, bytes.length};
+}
+
+/* Stops unless both returned the same and left the same bytes. */
+static void must_agree(uint64_t engine, uint64_t reference)
+{
+    if (engine != reference)
+        fprintf(stderr, "engine %#lx, reference %#lx\n", (unsigned long)engine, (unsigned long)reference);
+    must(engine == reference, "engine and reference return different values");
+    must(area_stays(&engine_area, engine_area.length), "bytes around the lent buffer changed");
+    must(memcmp(engine_area.lent, reference_area.lent, engine_area.length) == 0, "engine and reference leave different bytes");
+}
+
+/* Lends the engine and the reference buffers of one length, filled alike. */
+static void lend(size_t room)
+{
+    bool at_end = random_any() & 1;
+    uint8_t fill = (uint8_t)random_any();
+
+    area_lend(&engine_area, room, at_end, fill);
+    area_lend(&reference_area, room, at_end, fill);
+}
+
+/* Rewrites the text by both into so much room. */
+static uint64_t rewrite(size_t room)
+{
+    uint64_t value;
+
+    lend(room);
+    value = access_rewrite(text.start, text.length, engine_area.lent, room);
+    must_agree(value, reference_rewrite(text.start, text.length, reference_area.lent, room));
+    return value;
+}
+
+/* Replays a list on the text by the engine alone into so much room. */
+static uint64_t replay_alone(struct slice list, size_t room)
+{
+    lend(room);
+    return access_replay(text.start, text.length, list.start, list.length, engine_area.lent, room);
+}
+
+/* Replays a list on the text by both into so much room. */
+static uint64_t replay(struct slice list, size_t room)
+{
+    uint64_t value = replay_alone(list, room);
+
+    must_agree(value, reference_replay(text.start, text.length, list.start, list.length, reference_area.lent, room));
+    return value;
+}
+
+/* The lines of the text, one without a final 0A included. */
+static size_t lines_of_text(void)
+{
+    size_t i, count = 0;
+
+    for (i = 0; i < text.length; i++)
+        count += text.start[i] == '\n';
+    return count + (text.length && text.start[text.length - 1] != '\n');
+}
+
+/* A refused bundle names a line that is there (for 8 also the one past the last; for 9 the last), and the buffer stays. */
+static void check_refused(uint64_t value)
+{
+    uint64_t number = value >> 32, line = (uint32_t)value, count = lines_of_text();
+
+    must(number >= 1 && number <= 9, "rewrite: number not in the documents");
+    must(line >= 1 && line <= count + (number == 8), "rewrite: no such line");
+    must(number != 9 || line == count, "rewrite: circle not at the end line");
+    must(area_stays(&engine_area, 0), "rewrite: a refusal changed the buffer");
+}
+
+/* An accepted bundle is written as it was read, or is too long for the room and the buffer stays. */
+static void check_written(uint64_t value, size_t room)
+{
+    uint64_t number = value >> 32, length = (uint32_t)value;
+
+    must(length == text.length, "rewrite: another length");
+    must(number == (room < length ? 18 : 0), "rewrite: room or no room");
+    must(number == 0 || area_stays(&engine_area, 0), "rewrite: 18 changed the buffer");
+    must(number != 0 || memcmp(engine_area.lent, text.start, text.length) == 0, "rewrite: not the bytes that were read");
+    must(number != 0 || area_stays(&engine_area, length), "rewrite: bytes past the end changed");
+    if (number == 18)
+        tally_short();
+}
+
+/* Rewrites into buffers of several lengths; returns the number of the bundle. */
+static uint64_t check_rewrites(void)
+{
+    size_t exact = text.length, i, rooms[] = {exact, exact ? exact - 1 : 0, 0, below((unsigned)exact), exact + 1 + below(100)};
+    uint64_t first = rewrite(exact) >> 32;
+
+    for (i = 0; i < sizeof rooms / sizeof *rooms; i++) {
+        uint64_t value = rewrite(rooms[i]);
+        if (first == 0)
+            check_written(value, rooms[i]);
+        else
+            check_refused(value);
+        must(first == 0 || value >> 32 == first, "rewrite: the room changed the refusal");
+    }
+    tally_bundle(first);
+    return first;
+}
+
+/* What was written is rewritten to the same again. */
+static void check_again(void)
+{
+    static uint8_t once[AREA];
+    uint64_t value;
+
+    rewrite(text.length);
+    memcpy(once, engine_area.lent, text.length);
+    lend(text.length);
+    value = access_rewrite(once, text.length, engine_area.lent, text.length);
+    must(value == text.length && memcmp(engine_area.lent, once, text.length) == 0, "rewrite: not the same the second time");
+}
+
+/* An accepted bundle with exactly one byte altered is refused. */
+static void check_altered(void)
+{
+    uint8_t *place = text_area.lent + below((unsigned)text.length), byte = *place;
+    uint64_t value;
+
+    *place ^= (uint8_t)(1 + below(255));
+    if (one_in(2))
+        *place = (uint8_t)"0123456789ABCDEF\n"[below(17)];
+    value = *place == byte ? 0 : rewrite(text.length);
+    must(*place == byte || (value >> 32 >= 1 && value >> 32 <= 9), "rewrite: one byte altered, and not refused");
+    if (value)
+        check_refused(value);
+    *place = byte;
+}
+
+/* A refused bundle has no answers: its number, value 0, and the buffer stays. */
+static void check_unanswered(uint64_t number)
+{
+    size_t i, rooms[] = {5 * (calls.length / 4), 0, below(400)};
+
+    for (i = 0; i < sizeof rooms / sizeof *rooms; i++) {
+        must(replay(calls, rooms[i]) == number << 32, "replay: not the loader's number, or answers");
+        must(area_stays(&engine_area, 0), "replay: a refusal changed the buffer");
+    }
+}
+
+/* Whether a number is one that this kind of call may be answered with. */
+static bool number_fits(unsigned kind, unsigned number)
+{
+    static const uint8_t fits[6][5] = {{0, 10, 11, 13},     {0, 10, 12},     {0, 14, 15, 16, 17},
+                                       {0, 14, 15, 16, 17}, {0, 14, 15, 16}, {0, 14, 15, 16}};
+
+    return kind > 5 ? number == 4 : memchr(fits[kind], (int)number, 5) != NULL;
+}
+
+/* One answer: number, set and evaluations are of its kind. */
+static void check_answer(unsigned kind, const uint8_t *answer)
+{
+    uint32_t set = (uint32_t)answer[1] << 16 | (uint32_t)answer[2] << 8 | answer[3];
+    size_t principals = count_of(&lines, PRINCIPAL);
+    bool question = kind == 2 || kind == 3, asks = kind >= 2 && kind <= 5;
+
+    must(number_fits(kind, answer[0]), "replay: number not of this kind of call");
+    must(set == 0 || (asks && answer[0] == 0), "replay: a set without a grant");
+    must(question ? set >> principals == 0 : set <= 1, "replay: no such set");
+    must(answer[4] == 0 || (question && (answer[0] == 0 || answer[0] == 17)), "replay: evaluations without any");
+    must(answer[4] <= principals, "replay: more evaluations than principals");
+    tally_answer(kind, answer);
+}
+
+/* As many answers as whole calls and room; bytes past them stay. */
+static void check_count(uint64_t value, struct slice list, size_t room)
+{
+    size_t whole = list.length / 4, fit = room / 5, count = whole < fit ? whole : fit;
+
+    must(value == count, "replay: another number of answers");
+    must(area_stays(&engine_area, 5 * count), "replay: bytes past the answers changed");
+}
+
+/* A beginning of the calls, in any room, is answered as it is in the whole list. */
+static void check_beginning(const uint8_t *answers)
+{
+    struct slice list = {calls.start, below((unsigned)calls.length + 1)};
+    size_t room = below((unsigned)(5 * (calls.length / 4) + 12));
+    uint64_t value = replay(list, room);
+
+    check_count(value, list, room);
+    must(memcmp(engine_area.lent, answers, 5 * (size_t)value) == 0, "replay: a beginning is answered otherwise");
+}
+
+/* The other form of a question at the same point has the same set, and lazy no more evaluations. */
+static void check_forms(const uint8_t *answers)
+{
+    size_t number = below((unsigned)(calls.length / 4));
+    uint8_t *kind = calls_area.lent + 4 * number;
+    const uint8_t *one = answers + 5 * number, *other;
+
+    if (calls.length < 4 || (*kind != 2 && *kind != 3))
+        return;
+    *kind ^= 1;
+    must(replay_alone((struct slice){calls.start, 4 * number + 4}, 5 * number + 5) == number + 1, "replay: another number of answers");
+    other = engine_area.lent + 5 * number;
+    must(memcmp(one, other, 4) == 0, "replay: eager and lazy give different sets");
+    must(*kind == 2 ? one[4] <= other[4] : one[4] >= other[4], "replay: lazy evaluates more than eager");
+    *kind ^= 1;
+}
+
+/* Answers the calls on an accepted bundle: whole, again, in part, and with the other form. */
+static void check_answers(void)
+{
+    static uint8_t answers[5 * MOST_CALLS];
+    size_t i, count = calls.length / 4, room = 5 * count + below(12);
+
+    check_count(replay(calls, room), calls, room);
+    memcpy(answers, engine_area.lent, 5 * count);
+    for (i = 0; i < count; i++)
+        check_answer(calls.start[4 * i], answers + 5 * i);
+    check_count(replay_alone(calls, 5 * count), calls, 5 * count);
+    must(memcmp(engine_area.lent, answers, 5 * count) == 0, "replay: two runs differ");
+    check_beginning(answers);
+    check_forms(answers);
+}
+
+/* Leaves out the questions that would take long, but for one input in 64. */
+static void keep_affordable(struct slice all)
+{
+    static uint8_t kept[MOST_CALLS];
+    uint64_t budget = one_in(64) ? 10000000 : 300000;
+
+    bundle_read(&lines, text);
+    calls = placed(&calls_area, (struct slice){kept, affordable(&lines, all, budget, kept)});
+    tally_dropped((all.length - calls.length) / 4);
+}
+
+/* Choices within a run depend on the input alone. */
+static void choose_by(const uint8_t *data, size_t size)
+{
+    uint64_t hash = 14695981039346656037u;
+    size_t i;
+
+    for (i = 0; i < size; i++)
+        hash = (hash ^ data[i]) * 1099511628211u;
+    random_start(hash);
+}
+
+/* Neither function writes to what it was lent to read. */
+static void check_unchanged(struct input input)
+{
+    must(text.length == 0 || memcmp(text.start, input.text.start, text.length) == 0, "the bundle was changed");
+    must(area_stays(&text_area, text.length) && area_stays(&calls_area, calls.length), "bytes around the bundle or the calls changed");
+}
+
+/* All checks on one input. */
+int LLVMFuzzerTestOneInput(const uint8_t *data, size_t size)
+{
+    struct input input = input_split(data, size);
+    uint64_t number;
+
+    if (input.text.length > MOST_TEXT)
+        return -1;
+    choose_by(data, size);
+    text = placed(&text_area, input.text);
+    calls = placed(&calls_area, input.calls);
+    number = check_rewrites();
+    if (number != 0) {
+        check_unanswered(number);
+    } else {
+        check_again();
+        check_altered();
+        keep_affordable(input.calls);
+        check_answers();
+    }
+    check_unchanged(input);
+    return 0;
+}
+
+/* Prints the figures at the end. */
+static void finish(void)
+{
+    tally_print();
+    coverage_print();
+}
+
+/* Starts the coverage of the engine, from the list beside the program. */
+int LLVMFuzzerInitialize(int *argc, char ***argv)
+{
+    (void)argc;
+    coverage_start((*argv)[0]);
+    atexit(finish);
+    return 0;
+}

@@ -1,0 +1,584 @@
+/* Changes to inputs that keep their structure, so that they get past the checks. */
+#include <stdlib.h>
+#include <string.h>
+
+#include "bundle.h"
+#include "random.h"
+
+size_t LLVMFuzzerMutate(uint8_t *data, size_t size, size_t max_size);
+
+static struct bundle bundle;
+static uint8_t calls[MOST_CALLS];
+static size_t calls_length;
+
+/* The body length of a kind. */
+static unsigned body_length(unsigned kind)
+{
+    static const uint8_t lengths[] = {0, 2, 3, 3, 3, 8, 2, 2, 2, 2, 9};
+
+    return kind == END ? 6 : kind <= METHOD ? lengths[kind] : below(12);
+}
+
+/* Whether the lines of a kind rise. */
+static bool rising(unsigned kind)
+{
+    return kind == USER || kind == EDGE || kind == HIERARCHY || kind == EXCLUSION || kind == PREREQUISITE;
+}
+
+/* A number below n, sometimes one just past it. */
+static uint8_t named(size_t n)
+{
+    return (uint8_t)(one_in(100) ? n : below((unsigned)n));
+}
+
+/* An object, mostly one of the first few. */
+static uint8_t an_object(void)
+{
+    unsigned objects = objects_of(&bundle);
+
+    return named(one_in(3) || objects < 6 ? objects : 6);
+}
+
+/* Another value for an octet: near the old one, small, at a limit, or any. */
+static uint8_t another(uint8_t old)
+{
+    static const uint8_t limits[] = {0, 1, 8, 9, 15, 16, 19, 20, 31, 32, 63, 64, 127, 128, 254, 255};
+    unsigned objects = objects_of(&bundle);
+
+    switch (below(6)) {
+    case 0:
+        return old + 1;
+    case 1:
+        return old - 1;
+    case 2:
+        return (uint8_t)below(4);
+    case 3:
+        return limits[below(sizeof limits)];
+    case 4:
+        return (uint8_t)(objects - below(2));
+    default:
+        return (uint8_t)random_any();
+    }
+}
+
+/* Privileges: a few of the first, of all, or any. */
+static void fill_privileges(uint8_t *octets)
+{
+    unsigned i, bits = below(4);
+
+    memset(octets, 0, 8);
+    if (one_in(20))
+        bits = 64;
+    for (i = 0; i < bits; i++) {
+        unsigned privilege = below(one_in(4) ? 64 : 6);
+        octets[7 - privilege / 8] |= (uint8_t)(1 << privilege % 8);
+    }
+}
+
+/* A formula whose parts are among those before it, mostly the last ones so that heights grow. */
+static void fill_formula(uint8_t *body)
+{
+    size_t own = count_of(&bundle, FORMULA);
+    uint8_t op = (uint8_t)below(own ? 9 : 4), a = named(own), b = one_in(2) && own ? (uint8_t)(own - 1) : named(own);
+
+    body[0] = op;
+    body[1] = op < 3 ? 0 : op == 3 ? named(16) : op > 6 ? (uint8_t)below(one_in(4) ? 16 : 3) : op == 4 ? b : a;
+    body[2] = op < 5 ? 0 : b;
+}
+
+/* Two different numbers below n, mostly in rising order. */
+static void fill_pair(uint8_t *body, size_t n)
+{
+    uint8_t p = named(n), q = named(n);
+    bool falls = one_in(12);
+
+    if (p == q && n && !one_in(100))
+        q = (uint8_t)((q + 1u) % n);
+    body[0] = (p < q) != falls ? p : q;
+    body[1] = (p < q) != falls ? q : p;
+}
+
+/* A body that suits a kind and the lines there are. */
+static void fill_body(unsigned kind, uint8_t *body)
+{
+    switch (kind) {
+    case USER:
+        body[0] = an_object(), body[1] = (uint8_t)random_any(), body[2] = (uint8_t)random_any();
+        break;
+    case EDGE:
+        body[0] = (uint8_t)below(one_in(4) ? 16 : 3), body[1] = an_object(), body[2] = an_object();
+        break;
+    case FORMULA:
+        fill_formula(body);
+        break;
+    case DEMARCATION:
+        fill_privileges(body);
+        break;
+    case HIERARCHY:
+        fill_pair(body, count_of(&bundle, DEMARCATION));
+        break;
+    case PRINCIPAL:
+        body[0] = named(count_of(&bundle, FORMULA)), body[1] = named(count_of(&bundle, DEMARCATION));
+        break;
+    case EXCLUSION:
+    case PREREQUISITE:
+        fill_pair(body, count_of(&bundle, PRINCIPAL));
+        break;
+    case METHOD:
+        body[0] = (uint8_t)below(2), fill_privileges(body + 1);
+        break;
+    default:
+        body[0] = 1, body[1] = (uint8_t)(1 + below(12));
+    }
+}
+
+/* Puts a line before a place; without room nothing happens. */
+static void insert_line(size_t place, struct line line)
+{
+    if (bundle.count == MOST_LINES)
+        return;
+    memmove(&bundle.lines[place + 1], &bundle.lines[place], (bundle.count - place) * sizeof line);
+    bundle.lines[place] = line;
+    bundle.count++;
+}
+
+/* Takes a line out. */
+static void remove_line(size_t place)
+{
+    memmove(&bundle.lines[place], &bundle.lines[place + 1], (bundle.count - place - 1) * sizeof *bundle.lines);
+    bundle.count--;
+}
+
+/* Adds a suitable line of a kind behind the others of that kind. */
+static void add_line(unsigned kind)
+{
+    struct line line = {.octets = {0, (uint8_t)kind}, .count = 3 + body_length(kind)};
+    size_t place = bundle.count;
+
+    fill_body(kind, line.octets + 2);
+    while (place > 0 && kind_of(&bundle.lines[place - 1]) > kind)
+        place--;
+    insert_line(place, line);
+}
+
+/* Adds many lines of a kind, now and then up to its limit and one more. */
+static void add_lines(unsigned kind)
+{
+    static const unsigned limits[] = {0, 1, 255, 512, 64, 20, 60, 20, 60, 60, 32};
+    unsigned i, count = one_in(10) ? limits[kind] + below(2) : 2 + below(8);
+
+    for (i = 0; i < count; i++)
+        add_line(kind);
+}
+
+/* Changes an octet of the body of a line. */
+static void change_octet(struct line *line)
+{
+    unsigned place = 2 + below(line->count - 3);
+
+    if (line->count > 3)
+        line->octets[place] = another(line->octets[place]);
+}
+
+/* Makes a line one octet longer or shorter. */
+static void change_length(struct line *line)
+{
+    if (one_in(2) && line->count < MOST_OCTETS)
+        line->octets[line->count++] = 0;
+    else if (line->count > 3)
+        line->count--;
+}
+
+/* Changes lines once. */
+static void change_lines(void)
+{
+    size_t place = below((unsigned)bundle.count), other = below((unsigned)bundle.count);
+    struct line *line = &bundle.lines[place], copy = *line;
+
+    if (bundle.count == 0 || one_in(3)) {
+        add_line(one_in(10) ? HEAD : USER + below(9));
+        return;
+    }
+    switch (below(16)) {
+    case 0:
+        insert_line(place, copy);
+        break;
+    case 1:
+    case 2:
+    case 3:
+        remove_line(place);
+        break;
+    case 4:
+        *line = bundle.lines[other], bundle.lines[other] = copy;
+        break;
+    case 5:
+        line->octets[1] = one_in(4) ? (uint8_t)random_any() : (uint8_t)(1 + below(11));
+        break;
+    case 6:
+        change_length(line);
+        break;
+    case 7:
+    case 8:
+        add_lines(USER + below(9));
+        break;
+    default:
+        change_octet(line);
+    }
+}
+
+/* The order of lines: by kind, then as they must rise, else as they stand. */
+static int compare_lines(const void *left, const void *right)
+{
+    const struct line *a = left, *b = right;
+    unsigned kind = kind_of(a);
+    int order = kind == kind_of(b) && rising(kind) ? memcmp(a->octets + 2, b->octets + 2, kind == USER ? 1 : body_length(kind)) : 0;
+
+    if (kind != kind_of(b))
+        return kind < kind_of(b) ? -1 : 1;
+    return order ? order : a->place < b->place ? -1 : a->place > b->place;
+}
+
+/* Whether a line names the same as the one before it, where lines must rise. */
+static bool repeats(size_t place)
+{
+    const struct line *a = &bundle.lines[place - 1], *b = &bundle.lines[place];
+    unsigned kind = kind_of(b);
+
+    return kind == kind_of(a) && rising(kind) && memcmp(a->octets + 2, b->octets + 2, kind == USER ? 1 : body_length(kind)) == 0;
+}
+
+/* Puts the lines in order and takes out repeated ones. */
+static void repair_order(void)
+{
+    size_t i;
+
+    for (i = 0; i < bundle.count; i++)
+        bundle.lines[i].place = (unsigned)i;
+    qsort(bundle.lines, bundle.count, sizeof *bundle.lines, compare_lines);
+    for (i = bundle.count; i-- > 1;)
+        if (repeats(i))
+            remove_line(i);
+}
+
+/* A number brought below n. */
+static uint8_t brought(uint8_t number, size_t n)
+{
+    return n ? (uint8_t)(number % n) : number;
+}
+
+/* Brings the numbers of a formula into range, as the one at a place among the formulas. */
+static void repair_formula(uint8_t *body, size_t own)
+{
+    uint8_t op = body[0] = brought(body[0], own ? 9 : 4);
+
+    body[1] = op < 3 ? 0 : op == 3 || op > 6 ? brought(body[1], 16) : brought(body[1], own);
+    body[2] = op < 5 ? 0 : brought(body[2], own);
+}
+
+/* Brings two numbers below n, the first below the second where that is asked for. */
+static void repair_pair(uint8_t *body, size_t n, bool in_order)
+{
+    uint8_t p = brought(body[0], n), q = brought(body[1], n);
+
+    body[0] = p < q || !in_order ? p : q;
+    body[1] = p < q || !in_order ? q : p;
+}
+
+/* Brings the numbers of a line into range. */
+static void repair_body(unsigned kind, uint8_t *body)
+{
+    unsigned objects = objects_of(&bundle);
+
+    if (kind == USER)
+        body[0] = brought(body[0], objects);
+    if (kind == EDGE)
+        body[0] = brought(body[0], 16), body[1] = brought(body[1], objects), body[2] = brought(body[2], objects);
+    if (kind == HIERARCHY)
+        repair_pair(body, count_of(&bundle, DEMARCATION), false);
+    if (kind == PRINCIPAL)
+        body[0] = brought(body[0], count_of(&bundle, FORMULA)), body[1] = brought(body[1], count_of(&bundle, DEMARCATION));
+    if (kind == EXCLUSION || kind == PREREQUISITE)
+        repair_pair(body, count_of(&bundle, PRINCIPAL), kind == EXCLUSION);
+    if (kind == METHOD)
+        body[0] = brought(body[0], 2);
+}
+
+/* Brings the numbers of all lines into range. */
+static void repair_numbers(void)
+{
+    size_t i, formulas = 0;
+
+    for (i = 0; i < bundle.count; i++)
+        if (kind_of(&bundle.lines[i]) == FORMULA)
+            repair_formula(bundle.lines[i].octets + 2, formulas++);
+        else
+            repair_body(kind_of(&bundle.lines[i]), bundle.lines[i].octets + 2);
+}
+
+/* Takes out lines that name one thing twice, and those of another length than their kind's. */
+static void drop_misfits(void)
+{
+    size_t i;
+
+    for (i = bundle.count; i-- > 0;) {
+        const struct line *line = &bundle.lines[i];
+        unsigned kind = kind_of(line);
+        bool pair = kind == HIERARCHY || kind == EXCLUSION || kind == PREREQUISITE;
+        if (kind > METHOD || line->count != 3 + body_length(kind) || (pair && line->octets[2] == line->octets[3]))
+            remove_line(i);
+    }
+}
+
+/* Mostly puts right what the changes broke: order, or everything. */
+static void repair(void)
+{
+    if (one_in(5))
+        return;
+    if (!one_in(4)) {
+        repair_numbers();
+        drop_misfits();
+    }
+    repair_order();
+}
+
+/* Sets a line's length octet and its check octet, so that its octets add to zero. */
+static void seal_line(struct line *line)
+{
+    unsigned i;
+    uint8_t sum = 0;
+
+    line->octets[0] = (uint8_t)(line->count - 3);
+    for (i = 0; i + 1 < line->count; i++)
+        sum += line->octets[i];
+    line->octets[i] = -sum;
+}
+
+/* The plain sum of all octets of the lines. */
+static uint32_t plain_sum(void)
+{
+    uint32_t sum = 0;
+    size_t i;
+    unsigned k;
+
+    for (i = 0; i < bundle.count; i++)
+        for (k = 0; k < bundle.lines[i].count; k++)
+            sum += bundle.lines[i].octets[k];
+    return sum;
+}
+
+/* Takes out all end lines and adds a right one, now and then with a wrong number. */
+static void seal_end(void)
+{
+    struct line end = {.octets = {6, END}, .count = 9};
+    uint32_t sum;
+    size_t i;
+
+    for (i = bundle.count; i-- > 0;)
+        if (kind_of(&bundle.lines[i]) == END)
+            remove_line(i);
+    sum = plain_sum();
+    end.octets[2] = (uint8_t)(bundle.count >> 8), end.octets[3] = (uint8_t)bundle.count;
+    end.octets[4] = (uint8_t)(sum >> 24), end.octets[5] = (uint8_t)(sum >> 16);
+    end.octets[6] = (uint8_t)(sum >> 8), end.octets[7] = (uint8_t)sum;
+    if (one_in(40))
+        change_octet(&end);
+    seal_line(&end);
+    insert_line(bundle.count, end);
+}
+
+/* Seals all lines; now and then one keeps a wrong octet, or there is no right end. */
+static void seal(void)
+{
+    size_t i, spoilt = below((unsigned)bundle.count);
+
+    for (i = 0; i < bundle.count; i++)
+        seal_line(&bundle.lines[i]);
+    if (bundle.count && one_in(30))
+        bundle.lines[spoilt].octets[below(bundle.lines[spoilt].count)] ^= (uint8_t)(1 + below(255));
+    if (!one_in(30))
+        seal_end();
+}
+
+/* Fills in a call that suits the bundle: a known edge or a new one, or a question by a user. */
+static void fill_call(uint8_t *call)
+{
+    const struct line *edge = line_of(&bundle, EDGE, below((unsigned)count_of(&bundle, EDGE)));
+    const struct line *user = line_of(&bundle, USER, below((unsigned)count_of(&bundle, USER)));
+    struct line any;
+
+    call[0] = one_in(40) ? (uint8_t)random_any() : (uint8_t)below(6);
+    if (call[0] < 2) {
+        fill_body(EDGE, any.octets + 2);
+        memcpy(call + 1, edge && one_in(2) ? edge->octets + 2 : any.octets + 2, 3);
+        return;
+    }
+    call[1] = named(count_of(&bundle, METHOD));
+    call[2] = an_object();
+    call[3] = user && !one_in(12) ? user->octets[2] : an_object();
+}
+
+/* Puts four octets of a call before a place; without room nothing happens. */
+static void insert_call(size_t place, const uint8_t *call)
+{
+    if (calls_length + 4 > MOST_CALLS)
+        return;
+    memmove(calls + place + 4, calls + place, calls_length - place);
+    memcpy(calls + place, call, 4);
+    calls_length += 4;
+}
+
+/* Repeats a call behind another one, mostly in the other form. */
+static void repeat_call(size_t from, size_t to)
+{
+    uint8_t call[4];
+
+    memcpy(call, calls + from, 4);
+    if (call[0] < 6 && !one_in(4))
+        call[0] ^= 1;
+    insert_call(to, call);
+}
+
+/* Changes the calls once. */
+static void change_calls(void)
+{
+    size_t whole = calls_length / 4, place = 4 * below((unsigned)whole), other = 4 * below((unsigned)whole);
+    uint8_t call[4], *octet = &calls[below((unsigned)calls_length)];
+
+    fill_call(call);
+    switch (whole ? below(10) : 0) {
+    case 0:
+    case 1:
+    case 2:
+        insert_call(place, call);
+        break;
+    case 3:
+        memcpy(calls + place, call, 4);
+        break;
+    case 4:
+        repeat_call(place, other);
+        break;
+    case 5:
+    case 6:
+        *octet = another(*octet);
+        break;
+    case 7:
+        calls_length -= 1 + below(4);
+        break;
+    case 8:
+        calls_length = LLVMFuzzerMutate(calls, calls_length, MOST_CALLS);
+        break;
+    default:
+        memmove(calls + place, calls + place + 4, calls_length - place - 4), calls_length -= 4;
+    }
+}
+
+/* Whether a line of a kind begins with a number. */
+static bool line_names(unsigned kind, uint8_t number)
+{
+    size_t i;
+
+    for (i = 0; i < bundle.count; i++)
+        if (kind_of(&bundle.lines[i]) == kind && bundle.lines[i].octets[2] == number)
+            return true;
+    return false;
+}
+
+/* Brings the numbers of a call into range, the requestor among the users. */
+static void repair_call(uint8_t *call)
+{
+    const struct line *user = line_of(&bundle, USER, brought(call[3], count_of(&bundle, USER)));
+
+    call[0] = one_in(20) ? call[0] : brought(call[0], 6);
+    call[1] = brought(call[1], call[0] < 2 ? 16 : count_of(&bundle, METHOD));
+    call[2] = brought(call[2], objects_of(&bundle));
+    call[3] = call[0] >= 2 && user && !line_names(USER, call[3]) ? user->octets[2] : brought(call[3], objects_of(&bundle));
+}
+
+/* In half the inputs, brings the numbers of all calls into range. */
+static void repair_calls(void)
+{
+    size_t i;
+
+    if (one_in(2))
+        for (i = 0; i + 4 <= calls_length; i += 4)
+            repair_call(calls + i);
+}
+
+/* Takes an input apart. */
+static void read_input(const uint8_t *data, size_t size)
+{
+    struct input input = input_split(data, size);
+
+    calls_length = input.calls.length;
+    memcpy(calls, input.calls.start, calls_length);
+    bundle_read(&bundle, input.text);
+}
+
+/* Puts the input together, now and then with a damaged text. */
+static size_t write_input(uint8_t *data, size_t max_size)
+{
+    size_t size = input_join(data, max_size, (struct slice){calls, calls_length}, &bundle), text = 1 + calls_length;
+
+    if (one_in(25) && size > text)
+        size = text + LLVMFuzzerMutate(data + text, size - text, max_size - text);
+    if (one_in(80) && size > text)
+        size = text + below((unsigned)(size - text));
+    return size;
+}
+
+/* One change of an input, sealed again for the most part. */
+size_t LLVMFuzzerCustomMutator(uint8_t *data, size_t size, size_t max_size, unsigned seed)
+{
+    unsigned steps;
+
+    random_start(seed);
+    if (one_in(40))
+        return LLVMFuzzerMutate(data, size, max_size);
+    read_input(data, size);
+    for (steps = 1 + below(4); steps > 0; steps--)
+        if (one_in(2))
+            change_calls();
+        else
+            change_lines();
+    repair();
+    repair_calls();
+    seal();
+    return write_input(data, max_size);
+}
+
+/* Puts the lines of one kind, or none, in place of ours. */
+static void take_kind(const struct bundle *from, unsigned kind)
+{
+    size_t i;
+
+    for (i = bundle.count; i-- > 0;)
+        if (kind_of(&bundle.lines[i]) == kind)
+            remove_line(i);
+    for (i = 0; i < from->count; i++)
+        if (kind_of(&from->lines[i]) == kind)
+            insert_line(bundle.count, from->lines[i]);
+}
+
+/* The first input with the lines of some kinds from the second, and the calls of either. */
+size_t LLVMFuzzerCustomCrossOver(const uint8_t *data1, size_t size1, const uint8_t *data2, size_t size2, uint8_t *out, size_t max_size,
+                                 unsigned seed)
+{
+    static struct bundle other;
+    struct input second = input_split(data2, size2);
+    unsigned kind;
+
+    random_start(seed);
+    bundle_read(&other, second.text);
+    read_input(data1, size1);
+    for (kind = HEAD; kind <= METHOD; kind++)
+        if (one_in(3))
+            take_kind(&other, kind);
+    if (one_in(2)) {
+        calls_length = second.calls.length;
+        memcpy(calls, second.calls.start, calls_length);
+    }
+    repair();
+    repair_calls();
+    seal();
+    return write_input(out, max_size);
+}

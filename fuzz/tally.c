@@ -1,0 +1,52 @@
+#include "tally.h"
+
+#include <stdio.h>
+
+static size_t bundles[19], answers[19], kinds[7], granted, yes, dropped;
+
+/* Counts a bundle by its number. */
+void tally_bundle(uint64_t number)
+{
+    bundles[number]++;
+}
+
+/* Counts a buffer that was too short. */
+void tally_short(void)
+{
+    bundles[18]++;
+}
+
+/* Counts an answer by its number and by the kind of its call. */
+void tally_answer(unsigned kind, const uint8_t *answer)
+{
+    uint32_t set = (uint32_t)answer[1] << 16 | (uint32_t)answer[2] << 8 | answer[3];
+
+    answers[answer[0]]++;
+    kinds[kind > 5 ? 6 : kind]++;
+    granted += (kind == 2 || kind == 3) && set != 0;
+    yes += (kind == 4 || kind == 5) && set != 0;
+}
+
+/* Counts the calls left out as too slow. */
+void tally_dropped(size_t calls)
+{
+    dropped += calls;
+}
+
+/* Prints the counts. */
+void tally_print(void)
+{
+    static const char *names[] = {"add", "remove", "eager", "lazy", "liberal", "strict", "other"};
+    int i;
+
+    fprintf(stderr, "bundles by number: 0:%zu", bundles[0]);
+    for (i = 1; i <= 9; i++)
+        fprintf(stderr, " %d:%zu", i, bundles[i]);
+    fprintf(stderr, "; buffers too short 18:%zu\nanswers by number: 0:%zu 4:%zu", bundles[18], answers[0], answers[4]);
+    for (i = 10; i <= 17; i++)
+        fprintf(stderr, " %d:%zu", i, answers[i]);
+    fprintf(stderr, "\nanswers by kind:");
+    for (i = 0; i < 7; i++)
+        fprintf(stderr, " %s:%zu", names[i], kinds[i]);
+    fprintf(stderr, "; sets granted other than the empty one: %zu; yes: %zu; calls left out as too slow: %zu\n", granted, yes, dropped);
+}

@@ -1,0 +1,14 @@
+/* What the runs came across. */
+#ifndef TALLY_H
+#define TALLY_H
+
+#include <stddef.h>
+#include <stdint.h>
+
+void tally_bundle(uint64_t number);
+void tally_short(void);
+void tally_answer(unsigned kind, const uint8_t *answer);
+void tally_dropped(size_t calls);
+void tally_print(void);
+
+#endif
