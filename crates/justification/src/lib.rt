@@ -10,6 +10,7 @@ ghost use lib.ListN.{getD};
 ghost use Rattle.common.specs.Lists.{at};
 ghost use Rattle.common.specs.Sets.{member, In};
 ghost use Rattle.closure.specs.Closure.{pairsOf, reaches};
+ghost use Rattle.search.specs.Steps.{MetBy};
 ghost use Rattle.policy.specs.Table.{Kind};
 ghost use Rattle.policy.specs.Loadable.{tableLoads, pairsLoad};
 ghost use Rattle.policy.specs.Loadable as validity;
@@ -20,7 +21,7 @@ ghost use Rattle.justification.specs.Justification as justification;
 ghost use Rattle.justification.specs.Masked.{excluded, Masked, found};
 ghost use Rattle.justification.specs.Predicates.{questionRefusal, isEnabled};
 ghost use Rattle.justification.specs.Predicates as predicates;
-ghost use Rattle.justification.specs.Parts.{Marks, OneMeets};
+ghost use Rattle.justification.specs.Parts.{Marks, Those};
 use formula::Setting;
 use policy::Record;
 use search::Found;
@@ -239,30 +240,47 @@ pub fn question_refusal(rules: Record, loads: bool, method: u8, object: u8, requ
     common::ACCEPTED
 }
 
-// The set of those of the first n principals whose formula is true at the object.
-fn true_ones(q: Setting, n: usize, formulas: [u8; 20]) -> u32
-    requires { ⌜ (q .«edge_count» ≤ 512) × (n ≤ 20) ⌝ }
-    ensures { λ r. ⌜ Marks n (λ p. trueIn q 64 (at formulas p) (q .object)) r ⌝ }
+// Those of the first n principals that meet a guard alone.
+fn meeting(n: usize, grants: [u64; 20], every: bool, wanted: u64) -> u32
+    requires { ⌜ n ≤ 20 ⌝ }
+    ensures { λ r. ⌜ Those n (λ p. MetBy every wanted (at grants p)) r ⌝ }
 {
     let mut s: u32 = 0;
     let mut p: usize = 0;
     while p < n {
-        let f = place(formulas[p]);
-        let more = marked(s, p, formula::true_at_object(q, f));
+        let more = marked(s, p, search::meets(every, wanted, grants[p]));
         s = more;
         p += 1;
     }
     s
 }
 
-// The enabled principals.
-pub fn enabled_of(rules: Record, object: u8, requestor: u8) -> u32
+// Of the first n principals those in `among` whose formula is true at the object; no other formula is evaluated.
+fn true_ones(q: Setting, n: usize, formulas: [u8; 20], among: u32) -> u32
+    requires { ⌜ (q .«edge_count» ≤ 512) × (n ≤ 20) ⌝ }
+    ensures { λ r. ⌜ Those n (λ p. (In p among) × (trueIn q 64 (at formulas p) (q .object) ≡ true)) r ⌝ }
+{
+    let mut s: u32 = 0;
+    let mut p: usize = 0;
+    while p < n {
+        if search::has(among, p) {
+            let f = place(formulas[p]);
+            let more = marked(s, p, formula::true_at_object(q, f));
+            s = more;
+        }
+        p += 1;
+    }
+    s
+}
+
+// The enabled principals of those in `among`.
+pub fn enabled_of(rules: Record, object: u8, requestor: u8, among: u32) -> u32
     requires { ⌜ ((j : Kind) → tableLoads rules j ≡ true) ⌝ }
-    ensures { λ r. ⌜ Marks (rules .«principal_count») (isEnabled rules object requestor) r ⌝ }
+    ensures { λ r. ⌜ Those (rules .«principal_count») (λ p. (In p among) × (isEnabled rules object requestor p ≡ true)) r ⌝ }
 {
     let q = formula::setting_of(rules, object, requestor);
     let formulas = rules.principal_formulas;
-    true_ones(q, rules.principal_count, formulas)
+    true_ones(q, rules.principal_count, formulas, among)
 }
 
 // Whether all enabled principals together meet the guard, without constraints.
@@ -273,7 +291,7 @@ pub fn liberal(rules: Record, method: u8, object: u8, requestor: u8) -> Verdict
     liberal_if(rules, loads, method, object, requestor)
 }
 
-// The same, where it is known whether some bundle loads to the record.
+// The same, where it is known whether some bundle loads to the record. Only the formulas of principals that give a wanted privilege are evaluated.
 pub fn liberal_if(rules: Record, loads: bool, method: u8, object: u8, requestor: u8) -> Verdict
     requires { ⌜ loads ≡ validity.loadable rules ⌝ }
     ensures { λ r. ⌜ r ≡ predicates.liberal rules method object requestor ⌝ }
@@ -286,29 +304,16 @@ pub fn liberal_if(rules: Record, loads: bool, method: u8, object: u8, requestor:
         };
     }
     let m = place(method);
-    let enabled = enabled_of(rules, object, requestor);
-    let grants = grants_of(rules);
-    let given = search::gathered(rules.principal_count, enabled, grants);
     let wanted = listed(rules.method_privileges[m]);
+    let grants = grants_of(rules);
+    let givers = meeting(rules.principal_count, grants, false, wanted);
+    let enabled = enabled_of(rules, object, requestor, givers);
+    let given = search::gathered(rules.principal_count, enabled, grants);
     let yes = search::meets(rules.method_forms[m] != 0, wanted, given);
     Verdict {
         number: 0,
         yes: yes,
     }
-}
-
-// Whether one member of s below n alone meets the guard.
-fn one_meets(n: usize, s: u32, grants: [u64; 20], every: bool, wanted: u64) -> bool
-    requires { ⌜ n ≤ 20 ⌝ }
-    ensures { λ r. ⌜ (r ≡ true ↔ OneMeets n s grants every wanted) ⌝ }
-{
-    let mut found = false;
-    let mut p: usize = 0;
-    while p < n {
-        found = found | (search::has(s, p) & search::meets(every, wanted, grants[p]));
-        p += 1;
-    }
-    found
 }
 
 // Whether one enabled principal alone meets the guard, without constraints.
@@ -319,7 +324,7 @@ pub fn strict(rules: Record, method: u8, object: u8, requestor: u8) -> Verdict
     strict_if(rules, loads, method, object, requestor)
 }
 
-// The same, where it is known whether some bundle loads to the record.
+// The same, where it is known whether some bundle loads to the record. Only the formulas of principals that meet the guard are evaluated.
 pub fn strict_if(rules: Record, loads: bool, method: u8, object: u8, requestor: u8) -> Verdict
     requires { ⌜ loads ≡ validity.loadable rules ⌝ }
     ensures { λ r. ⌜ r ≡ predicates.strict rules method object requestor ⌝ }
@@ -332,13 +337,17 @@ pub fn strict_if(rules: Record, loads: bool, method: u8, object: u8, requestor: 
         };
     }
     let m = place(method);
-    let enabled = enabled_of(rules, object, requestor);
-    let grants = grants_of(rules);
     let wanted = listed(rules.method_privileges[m]);
-    let every = rules.method_forms[m] != 0;
-    let yes = one_meets(rules.principal_count, enabled, grants, every, wanted);
+    let grants = grants_of(rules);
+    let able = meeting(
+        rules.principal_count,
+        grants,
+        rules.method_forms[m] != 0,
+        wanted,
+    );
+    let found = enabled_of(rules, object, requestor, able);
     Verdict {
         number: 0,
-        yes: yes,
+        yes: found != 0,
     }
 }

@@ -1,15 +1,15 @@
 -- `enabled_of` meets its contract.
-use Prim.Native.Nat.{ℕ}
-use mathlib.Core.Path.{_≡_, refl, _∙_, ap}
+use Prim.Native.Nat.{ℕ, _<_}
+use mathlib.Core.Path.{_≡_, refl, sym, _∙_, ap}
 use Rattle.common.specs.Lists.{at}
 use Rattle.policy.specs.declared.Record.{Record}
 use Rattle.formula.specs.Formula.{holds}
+use Rattle.formula.specs.Evaluation.{trueIn}
 use Rattle.justification.specs.Predicates.{isEnabled}
 use native.Mathlib.Omega.{arith}
 use Rattle.policy.specs.Table.{user, edge, formula, principal}
 use Rattle.policy.specs.LoadableLaws.{table-few}
 use Rattle.formula.specs.EvaluationLaws.{setting-holds}
-use Rattle.justification.proofs.Marking.{marks-same}
 use Rattle.justification.specs.NamedLaws.{principal-named}
 use Rattle.justification.proofs.enabled_of.Statement.{statement}
 use Rattle.justification.proofs.enabled_of.Tie as tie
@@ -30,10 +30,13 @@ returns c =
     let r = s .args .rules in
     let made = c .before .before .«setting-of» .ensures in
     let q = c .before .before .«setting-of» .result in
-    marks-same
-    (λ p l. setting-holds r (s .args .object) (s .args .requestor) q made (at (r .«principal_formulas») p) (q .object) (principal-named r (s .pre) p l .0) (table-few r formula (s .pre formula))
-    ∙ ap (λ (v : ℕ). holds r (at (r .«principal_formulas») p) v (s .args .object) (s .args .requestor)) (made .object) ∙ is-enabled r p (s .args .object) (s .args .requestor))
-    (c .«true-ones» .ensures)
+    let found = c .«true-ones» .ensures in
+    let same : (p : ℕ) → p < r .«principal_count» → trueIn q 64 (at (r .«principal_formulas») p) (q .object) ≡ isEnabled r (s .args .object) (s .args .requestor) p = λ p l. setting-holds r (s .args .object) (s .args .requestor) q made (at (r .«principal_formulas») p) (q .object) (principal-named r (s .pre) p l .0) (table-few r formula (s .pre formula))
+    ∙ ap (λ (v : ℕ). holds r (at (r .«principal_formulas») p) v (s .args .object) (s .args .requestor)) (made .object) ∙ is-enabled r p (s .args .object) (s .args .requestor) in
+    record {
+      only = λ p i. let (l, x) = found .only p i in (l, (x .0, sym (same p l) ∙ x .1));
+      all = λ p l x. found .all p l (x .0, same p l ∙ x .1);
+    }
 
 pub enabled-of-spec : {M : Type 1} → statement M
 enabled-of-spec = tie.close (tie.spec setting-of-requires true-ones-requires returns)

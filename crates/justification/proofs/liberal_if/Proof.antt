@@ -35,41 +35,46 @@ module _ (h : tie.After-place) where
   in-range : h .place .result < 32
   in-range = let n = table-few _ method (tables method) in omega (arith, h .place .ensures, may .method)
 
-enabled-of-requires : tie.Need-enabled-of-requires
-enabled-of-requires c κs = tables c
-
-grants-of-requires : tie.Need-grants-of-requires
-grants-of-requires c κs = tables (c .before)
-
-gathered-requires : tie.Need-gathered-requires
-gathered-requires c κs = table-few _ principal (tables (c .before .before) principal)
-
 mul-listed : tie.Need-mul-listed
-mul-listed c = omega (arith, in-range (c .before .before .before))
+mul-listed c = omega (arith, in-range c)
 
 element-copy-out-listed : tie.Need-element-copy-out-listed
-element-copy-out-listed c = in-range (c .before .before .before)
+element-copy-out-listed c = in-range c
 
 listed-requires : tie.Need-listed-requires
 listed-requires c κs = search needs
 
+grants-of-requires : tie.Need-grants-of-requires
+grants-of-requires c κs = tables (c .before .before)
+
+meeting-requires : tie.Need-meeting-requires
+meeting-requires c κs = table-few _ principal (tables (c .before .before .before) principal)
+
+enabled-of-requires : tie.Need-enabled-of-requires
+enabled-of-requires c κs = tables (c .before .before .before .before)
+
+gathered-requires : tie.Need-gathered-requires
+gathered-requires c κs = table-few _ principal (tables (c .before .before .before .before .before) principal)
+
 element-copy-out-meets : tie.Need-element-copy-out-meets
-element-copy-out-meets c = in-range (c .before .before .before .before .before)
+element-copy-out-meets c = in-range (c .before .before .before .before .before .before)
 
 meets-requires : tie.Need-meets-requires
 meets-requires c κs = search needs
 
 returns-2 : tie.Need-returns-2
 returns-2 c =
-    let l = c .before .before in
-    let g = l .before .before in
-    let e = g .before .before in
-    let h = e .before in
+    let g = c .before .before in
+    let e = g .before in
+    let m = e .before in
+    let gr = m .before in
+    let l = gr .before in
+    let h = l .before .before in
     let s = start h in
     let r = s .args .t1 in
     liberal-is r _ _ _ (sym (h .before .if1 .left) ∙ h .before .before .«question-refusal» .ensures) (c .meets .result)
-    (liberal-yes r (s .args .object) (s .args .requestor) (e .«enabled-of» .result) (g .before .«grants-of» .result) (e .«enabled-of» .ensures) (g .before .«grants-of» .ensures)
-    (h .place .ensures) (l .listed .ensures .0) (l .listed .ensures .1) (g .gathered .result) (c .meets .result) (g .gathered .ensures) (c .meets .ensures))
+    (liberal-yes r (s .args .object) (s .args .requestor) (m .meeting .result) (e .«enabled-of» .result) (gr .«grants-of» .result) (gr .«grants-of» .ensures) (e .«enabled-of» .ensures)
+    (h .place .ensures) (l .listed .ensures .0) (l .listed .ensures .1) (m .meeting .ensures) (g .gathered .result) (c .meets .result) (g .gathered .ensures) (c .meets .ensures))
 
 pub liberal-if-spec : {M : Type 1} → statement M
 liberal-if-spec =
@@ -78,12 +83,13 @@ liberal-if-spec =
     question-refusal-requires
     returns
     place-requires
-    enabled-of-requires
-    grants-of-requires
-    gathered-requires
     mul-listed
     element-copy-out-listed
     listed-requires
+    grants-of-requires
+    meeting-requires
+    enabled-of-requires
+    gathered-requires
     element-copy-out-meets
     meets-requires
     returns-2)

@@ -35,37 +35,38 @@ module _ (h : tie.After-place) where
   in-range : h .place .result < 32
   in-range = let n = table-few _ method (tables method) in omega (arith, h .place .ensures, may .method)
 
-enabled-of-requires : tie.Need-enabled-of-requires
-enabled-of-requires c κs = tables c
-
-grants-of-requires : tie.Need-grants-of-requires
-grants-of-requires c κs = tables (c .before)
-
 mul-listed : tie.Need-mul-listed
-mul-listed c = omega (arith, in-range (c .before .before))
+mul-listed c = omega (arith, in-range c)
 
 element-copy-out-listed : tie.Need-element-copy-out-listed
-element-copy-out-listed c = in-range (c .before .before)
+element-copy-out-listed c = in-range c
 
 listed-requires : tie.Need-listed-requires
 listed-requires c κs = search needs
 
-element-copy-out-every : tie.Need-element-copy-out-every
-element-copy-out-every c = in-range (c .before .before .before .before)
+grants-of-requires : tie.Need-grants-of-requires
+grants-of-requires c κs = tables (c .before .before)
 
-one-meets-requires : tie.Need-one-meets-requires
-one-meets-requires c κs = table-few _ principal (tables (c .before .before .before .before .before) principal)
+element-copy-out-meeting : tie.Need-element-copy-out-meeting
+element-copy-out-meeting c = in-range (c .before .before .before)
+
+meeting-requires : tie.Need-meeting-requires
+meeting-requires c κs = table-few _ principal (tables (c .before .before .before .before) principal)
+
+enabled-of-requires : tie.Need-enabled-of-requires
+enabled-of-requires c κs = tables (c .before .before .before .before .before)
 
 returns-2 : tie.Need-returns-2
 returns-2 c =
-    let l = c .before .before in
-    let g = l .before .before in
-    let e = g .before in
-    let h = e .before in
+    let m = c .before in
+    let gr = m .before .before in
+    let l = gr .before in
+    let h = l .before .before in
     let s = start h in
-    strict-is (s .args .t1) _ _ _ (sym (h .before .if1 .left) ∙ h .before .before .«question-refusal» .ensures) (c .«one-meets» .result)
-    (strict-yes (s .args .t1) (s .args .object) (s .args .requestor) (e .«enabled-of» .result) (g .«grants-of» .result) (e .«enabled-of» .ensures) (g .«grants-of» .ensures)
-    (h .place .ensures) (l .listed .ensures .0) (l .listed .ensures .1) (c .«one-meets» .result) (c .«one-meets» .ensures))
+    let r = s .args .t1 in
+    strict-is r _ _ _ (sym (h .before .if1 .left) ∙ h .before .before .«question-refusal» .ensures) _
+    (strict-yes r (s .args .object) (s .args .requestor) (m .meeting .result) (c .«enabled-of» .result) (gr .«grants-of» .result) (gr .«grants-of» .ensures) (c .«enabled-of» .ensures)
+    (h .place .ensures) (l .listed .ensures .0) (l .listed .ensures .1) (m .meeting .ensures))
 
 pub strict-if-spec : {M : Type 1} → statement M
 strict-if-spec =
@@ -74,11 +75,11 @@ strict-if-spec =
     question-refusal-requires
     returns
     place-requires
-    enabled-of-requires
-    grants-of-requires
     mul-listed
     element-copy-out-listed
     listed-requires
-    element-copy-out-every
-    one-meets-requires
+    grants-of-requires
+    element-copy-out-meeting
+    meeting-requires
+    enabled-of-requires
     returns-2)

@@ -1,23 +1,29 @@
 -- `true_ones` meets its contract.
 use Prim.Native.Nat.{ℕ, _-_, _≤_}
-use mathlib.Core.Path.{ap, _∙_}
+use mathlib.Core.Path.{_≡_, sym, ap, _∙_}
+use mathlib.Core.Logic.{⊎-elim}
+use mathlib.Core.Bool.{true, false≢true}
 use native.Mathlib.Omega.{arith}
 use Rattle.common.specs.Lists.{at}
+use Rattle.common.specs.Sets.{In}
 use Rattle.formula.specs.Evaluation.{trueIn}
-use Rattle.justification.specs.Parts.{Marks}
-use Rattle.justification.proofs.Marking.{marks-none, marks-more, marks-end}
+use Rattle.justification.specs.Parts.{Those}
+use Rattle.justification.proofs.Marking.{those-none, those-more, those-skip, those-end}
 use borrow.Author.Needs.{needs}
 use Rattle.justification.proofs.true_ones.Statement.{statement}
 use Rattle.justification.proofs.true_ones.Tie as tie
 
 abbrev Inv-loop : tie.InvT-loop
-Inv-loop q n formulas s₀ p₀ s p = Marks p (λ k. trueIn q 64 (at formulas k) (q .object)) s × (p ≤ n)
+Inv-loop q n among formulas s₀ p₀ s p = Those p (λ k. (In k among) × (trueIn q 64 (at formulas k) (q .object) ≡ true)) s × (p ≤ n)
 
 abbrev μ-loop : tie.MeasureT-loop
-μ-loop q n formulas s₀ p₀ s p = n - p
+μ-loop q n among formulas s₀ p₀ s p = n - p
 
 loop-holds : tie.Need-loop-holds Inv-loop μ-loop
-loop-holds c = (marks-none _, omega arith)
+loop-holds c = (those-none _, omega arith)
+
+has-requires : tie.Need-has-requires Inv-loop μ-loop
+has-requires c κs = search needs
 
 array-read-place : tie.Need-array-read-place Inv-loop μ-loop
 array-read-place c = search needs
@@ -39,12 +45,18 @@ loop-less c = search needs
 
 loop-again : tie.Need-loop-again Inv-loop μ-loop
 loop-again c =
-    let l = c .before .before .before .before in
+    let h = c .before in
+    let l = h .before .before in
     let q = l .before .args .q in
-    (marks-more (l .loop .inv .0) _ (c .before .«true-at-object» .ensures ∙ ap (λ (f : ℕ). trueIn q 64 f (q .object)) (c .before .before .place .ensures)) (c .marked .ensures), omega arith)
+    ⊎-elim
+    (λ w.
+    let is = w .2 .ensures ∙ ap (λ (f : ℕ). trueIn q 64 f (q .object)) (w .1 .ensures) in
+    rw (w .4) (those-more (l .loop .inv .0) (w .2 .result) (record { yes = λ e. (h .has .ensures .yes (w .0 .taken), sym is ∙ e); no = λ e x. false≢true (sym e ∙ is ∙ x .1) }) (w .3 .ensures), omega arith))
+    (λ w. rw (w .1) (those-skip (l .loop .inv .0) (λ x. h .has .ensures .no (w .0 .left) (x .0)), omega arith))
+    (c .if1 .came)
 
 returns : tie.Need-returns Inv-loop μ-loop
-returns c = marks-end (omega arith) (c .before .loop .inv .0)
+returns c = those-end (omega arith) (c .before .loop .inv .0)
 
 pub true-ones-spec : {M : Type 1} → statement M
 true-ones-spec =
@@ -53,6 +65,7 @@ true-ones-spec =
     Inv-loop
     μ-loop
     loop-holds
+    has-requires
     array-read-place
     place-requires
     true-at-object-requires
