@@ -122,7 +122,7 @@ fn denied(rules: Record, before: Memo, after: Memo) -> Answer
     let mut left = rules;
     left.memo = after;
     Answer {
-        number: common::DENIED,
+        number: common::NO_SET,
         set: 0,
         evaluations: newly(before, after),
         rules: left,

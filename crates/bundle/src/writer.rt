@@ -41,7 +41,7 @@ pub fn measure(rules: Record) -> Written
 {
     if !policy::loadable::loadable(rules) {
         return Written {
-            number: common::REFUSED_RECORD,
+            number: common::NOT_LOADABLE,
             length: 0,
         };
     }
@@ -158,7 +158,7 @@ pub fn write(rules: Record, buffer: &mut [u8]) -> Written
     }
     if buffer.len() < needed.length {
         return Written {
-            number: common::REFUSED_BUFFER,
+            number: common::SHORT_BUFFER,
             length: needed.length,
         };
     }

@@ -2,6 +2,7 @@ pub mod Lists
 pub mod Sets
 pub mod Causes
 pub mod Refusals
+pub mod Limits
 pub mod ListLaws
 pub mod BoolLaws
 pub mod SetLaws

@@ -66,7 +66,7 @@ fn answer_if(rules: Record, loads: bool, kind: u8, a: u8, b: u8, c: u8) -> Answe
         4 => of_verdict(rules, justification::liberal_if(rules, loads, a, b, c)),
         5 => of_verdict(rules, justification::strict_if(rules, loads, a, b, c)),
         6..=255 => Answer {
-            number: common::REFUSED_KIND,
+            number: common::WRONG_KIND,
             set: 0,
             evaluations: 0,
             rules: rules,

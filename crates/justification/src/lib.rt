@@ -226,16 +226,16 @@ pub fn question_refusal(rules: Record, loads: bool, method: u8, object: u8, requ
     ensures { λ r. ⌜ r ≡ questionRefusal rules method object requestor ⌝ }
 {
     if !loads {
-        return common::REFUSED_RECORD;
+        return common::NOT_LOADABLE;
     }
     if rules.method_count <= (method as usize) {
-        return common::REFUSED_METHOD;
+        return common::NO_METHOD;
     }
     if rules.objects <= object {
-        return common::REFUSED_OBJECT;
+        return common::NO_OBJECT;
     }
     if !is_user(rules, requestor) {
-        return common::REFUSED_REQUESTOR;
+        return common::NOT_USER;
     }
     common::ACCEPTED
 }

@@ -1,4 +1,4 @@
-// Loading a bundle: the readers of the kinds 06 to 0A, the end line, and `load`.
+// Loading a bundle: the lines of the kinds 06 to 0A, the end line, and `load`.
 
 ghost use mathlib.Core.Path.{_≡_};
 ghost use Prim.Native.Nat.{_+_, _≤_, _<_};
@@ -13,46 +13,14 @@ use reading::Next;
 use reading::Stage;
 use reading::next_line;
 use reading::number_at;
-use reading::past;
-use reading::stopped;
+use reading::read_kind;
 
 // Kind 06.
 fn read_hierarchy(text: &[u8], from: Stage) -> Stage
     requires { ⌜ (from .at .number ≡ 0 → Ready (now text) 0x06 852 from) ⌝ }
     ensures { λ r. ⌜ Reads (now (text .entry)) hierarchy 852 from r ⌝ }
 {
-    let mut at = from.at;
-    if at.number != 0 {
-        return from;
-    }
-    let mut rules = from.rules;
-    let mut least: u32 = 0;
-    loop {
-        let place = at.place;
-        match next_line(text, place, 0x06, 5) {
-            Next::Other => {
-                return Stage { at, rules };
-            }
-            Next::Refused(number) => {
-                return stopped(at, number, rules);
-            }
-            Next::Body { next, total } => {
-                let inferior = octets::octet_at(text, place, 2);
-                let superior = octets::octet_at(text, place, 3);
-                let n = rules.hierarchy_count;
-                let number = rows::pair_refusal(rules.demarcation_count, least, inferior, superior);
-                if number != 0 {
-                    return stopped(at, number, rules);
-                }
-                rules.inferiors[n] = inferior;
-                rules.superiors[n] = superior;
-                rules.hierarchy_count = n + 1;
-                least = rows::after_pair(inferior, superior);
-                let further = past(at, 0x06, next, total);
-                at = further;
-            }
-        }
-    }
+    read_kind(text, 0x06, 5, from)
 }
 
 // Kind 07.
@@ -60,38 +28,7 @@ fn read_principals(text: &[u8], from: Stage) -> Stage
     requires { ⌜ (from .at .number ≡ 0 → Ready (now text) 0x07 1232 from) ⌝ }
     ensures { λ r. ⌜ Reads (now (text .entry)) principal 1232 from r ⌝ }
 {
-    let mut at = from.at;
-    if at.number != 0 {
-        return from;
-    }
-    let mut rules = from.rules;
-    loop {
-        let place = at.place;
-        match next_line(text, place, 0x07, 5) {
-            Next::Other => {
-                return Stage { at, rules };
-            }
-            Next::Refused(number) => {
-                return stopped(at, number, rules);
-            }
-            Next::Body { next, total } => {
-                let f = octets::octet_at(text, place, 2);
-                let d = octets::octet_at(text, place, 3);
-                let n = rules.principal_count;
-                let formulas = rules.formula_count;
-                let demarcations = rules.demarcation_count;
-                let number = rows::principal_refusal(n, formulas, demarcations, f, d);
-                if number != 0 {
-                    return stopped(at, number, rules);
-                }
-                rules.principal_formulas[n] = f;
-                rules.principal_demarcations[n] = d;
-                rules.principal_count = n + 1;
-                let further = past(at, 0x07, next, total);
-                at = further;
-            }
-        }
-    }
+    read_kind(text, 0x07, 5, from)
 }
 
 // Kind 08.
@@ -99,38 +36,7 @@ fn read_exclusions(text: &[u8], from: Stage) -> Stage
     requires { ⌜ (from .at .number ≡ 0 → Ready (now text) 0x08 1252 from) ⌝ }
     ensures { λ r. ⌜ Reads (now (text .entry)) exclusion 1252 from r ⌝ }
 {
-    let mut at = from.at;
-    if at.number != 0 {
-        return from;
-    }
-    let mut rules = from.rules;
-    let mut least: u32 = 0;
-    loop {
-        let place = at.place;
-        match next_line(text, place, 0x08, 5) {
-            Next::Other => {
-                return Stage { at, rules };
-            }
-            Next::Refused(number) => {
-                return stopped(at, number, rules);
-            }
-            Next::Body { next, total } => {
-                let low = octets::octet_at(text, place, 2);
-                let high = octets::octet_at(text, place, 3);
-                let n = rules.exclusion_count;
-                let number = rows::exclusion_refusal(rules.principal_count, least, low, high);
-                if number != 0 {
-                    return stopped(at, number, rules);
-                }
-                rules.exclusion_lows[n] = low;
-                rules.exclusion_highs[n] = high;
-                rules.exclusion_count = n + 1;
-                least = rows::after_pair(low, high);
-                let further = past(at, 0x08, next, total);
-                at = further;
-            }
-        }
-    }
+    read_kind(text, 0x08, 5, from)
 }
 
 // Kind 09.
@@ -138,38 +44,7 @@ fn read_prerequisites(text: &[u8], from: Stage) -> Stage
     requires { ⌜ (from .at .number ≡ 0 → Ready (now text) 0x09 1442 from) ⌝ }
     ensures { λ r. ⌜ Reads (now (text .entry)) prerequisite 1442 from r ⌝ }
 {
-    let mut at = from.at;
-    if at.number != 0 {
-        return from;
-    }
-    let mut rules = from.rules;
-    let mut least: u32 = 0;
-    loop {
-        let place = at.place;
-        match next_line(text, place, 0x09, 5) {
-            Next::Other => {
-                return Stage { at, rules };
-            }
-            Next::Refused(number) => {
-                return stopped(at, number, rules);
-            }
-            Next::Body { next, total } => {
-                let needed = octets::octet_at(text, place, 2);
-                let needing = octets::octet_at(text, place, 3);
-                let n = rules.prerequisite_count;
-                let number = rows::pair_refusal(rules.principal_count, least, needed, needing);
-                if number != 0 {
-                    return stopped(at, number, rules);
-                }
-                rules.prerequisites[n] = needed;
-                rules.dependents[n] = needing;
-                rules.prerequisite_count = n + 1;
-                least = rows::after_pair(needed, needing);
-                let further = past(at, 0x09, next, total);
-                at = further;
-            }
-        }
-    }
+    read_kind(text, 0x09, 5, from)
 }
 
 // Kind 0A.
@@ -177,36 +52,7 @@ fn read_methods(text: &[u8], from: Stage) -> Stage
     requires { ⌜ (from .at .number ≡ 0 → Ready (now text) 0x0A 1822 from) ⌝ }
     ensures { λ r. ⌜ Reads (now (text .entry)) method 1822 from r ⌝ }
 {
-    let mut at = from.at;
-    if at.number != 0 {
-        return from;
-    }
-    let mut rules = from.rules;
-    loop {
-        let place = at.place;
-        match next_line(text, place, 0x0A, 12) {
-            Next::Other => {
-                return Stage { at, rules };
-            }
-            Next::Refused(number) => {
-                return stopped(at, number, rules);
-            }
-            Next::Body { next, total } => {
-                let form = octets::octet_at(text, place, 2);
-                let privileges = number_at(text, place, 3, 8);
-                let n = rules.method_count;
-                let number = rows::method_refusal(n, form);
-                if number != 0 {
-                    return stopped(at, number, rules);
-                }
-                rules.method_forms[n] = form;
-                rules.method_privileges[n] = privileges;
-                rules.method_count = n + 1;
-                let further = past(at, 0x0A, next, total);
-                at = further;
-            }
-        }
-    }
+    read_kind(text, 0x0A, 12, from)
 }
 
 // ---- the end line, and loading
@@ -238,12 +84,12 @@ fn ended(text: &[u8], place: usize, lines: usize, rules: Record) -> Loaded
                 next: _,
                 total: _,
             } => {
-                return not_loaded(common::REFUSED_KIND, lines + 1);
+                return not_loaded(common::WRONG_KIND, lines + 1);
             }
         }
     }
     if policy::loadable::has_circles(rules) {
-        return not_loaded(common::REFUSED_CIRCLE, lines);
+        return not_loaded(common::CIRCLE, lines);
     }
     Loaded {
         number: 0,
@@ -264,19 +110,19 @@ fn finish(text: &[u8], from: Stage) -> Loaded
     }
     let place = at.place;
     if text.len() <= place {
-        return not_loaded(common::REFUSED_END, at.lines + 1);
+        return not_loaded(common::WRONG_END, at.lines + 1);
     }
     match next_line(text, place, 0xFF, 9) {
-        Next::Other => not_loaded(common::REFUSED_KIND, at.lines + 1),
+        Next::Other => not_loaded(common::WRONG_KIND, at.lines + 1),
         Next::Refused(number) => not_loaded(number, at.lines + 1),
         Next::Body { next, total: _ } => {
             let count = number_at(text, place, 2, 2);
             let sum = number_at(text, place, 4, 4);
             if count != (at.lines as u64) {
-                return not_loaded(common::REFUSED_END, at.lines + 1);
+                return not_loaded(common::WRONG_END, at.lines + 1);
             }
             if sum != (at.sum as u64) {
-                return not_loaded(common::REFUSED_END, at.lines + 1);
+                return not_loaded(common::WRONG_END, at.lines + 1);
             }
             ended(text, next, at.lines + 1, rules)
         }
@@ -288,7 +134,7 @@ pub fn load(text: &[u8]) -> Loaded
     ensures { λ r. ⌜ r ≡ loading.load (now (text .entry)) ⌝ }
 {
     if text.len() == 0 {
-        return not_loaded(common::REFUSED_END, 1);
+        return not_loaded(common::WRONG_END, 1);
     }
     let head = reading::read_head(text);
     let users = reading::read_users(text, head);

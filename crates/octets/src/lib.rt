@@ -6,9 +6,9 @@ ghost use lib.ListN.{length, drop};
 ghost use Rattle.octets.specs.Line.{digitValue, frame};
 ghost use Rattle.octets.specs.Line as line;
 ghost use Rattle.octets.specs.Answers.{told, atEnd, octetOf, octetAt, placed, writtenLength, writtenBuffer};
-use common::REFUSED_CHARACTERS;
-use common::REFUSED_LENGTH;
-use common::REFUSED_SUM;
+use common::WRONG_CHARACTERS;
+use common::WRONG_LENGTH;
+use common::WRONG_SUM;
 
 // What the line at a place is.
 pub enum Line {
@@ -46,13 +46,13 @@ fn at_end(count: usize, first: u8, sum: u8, next: usize, total: usize) -> Line
     ensures { λ r. ⌜ r ≡ atEnd count first sum next total ⌝ }
 {
     if count == 0 {
-        return Line::Refused(REFUSED_CHARACTERS);
+        return Line::Refused(WRONG_CHARACTERS);
     }
     if (first as usize) + 3 != count {
-        return Line::Refused(REFUSED_LENGTH);
+        return Line::Refused(WRONG_LENGTH);
     }
     if sum != 0 {
-        return Line::Refused(REFUSED_SUM);
+        return Line::Refused(WRONG_SUM);
     }
     Line::Octets {
         count: count,
@@ -77,15 +77,15 @@ pub fn read_line(text: &[u8], place: usize) -> Line
         }
         let x = digit_value(a);
         if 16 <= x {
-            return Line::Refused(REFUSED_CHARACTERS);
+            return Line::Refused(WRONG_CHARACTERS);
         }
         let j = i + 1;
         if text.len() <= j {
-            return Line::Refused(REFUSED_CHARACTERS);
+            return Line::Refused(WRONG_CHARACTERS);
         }
         let y = digit_value(text[j]);
         if 16 <= y {
-            return Line::Refused(REFUSED_CHARACTERS);
+            return Line::Refused(WRONG_CHARACTERS);
         }
         let o = x * 16 + y;
         if n == 0 {
@@ -96,7 +96,7 @@ pub fn read_line(text: &[u8], place: usize) -> Line
         n += 1;
         i += 2;
     }
-    Line::Refused(REFUSED_CHARACTERS)
+    Line::Refused(WRONG_CHARACTERS)
 }
 
 // The octet of two digits; 0 where one of the bytes is no digit.

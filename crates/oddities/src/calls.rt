@@ -1,7 +1,7 @@
 // Every public call on one record, and the line that tells what they said.
 
 use crate::compare::same_record;
-use common::REFUSED_RECORD;
+use common::NOT_LOADABLE;
 use policy::Record;
 
 // The file that is written to: standard output.
@@ -120,10 +120,10 @@ fn comes_first(rules: Record) -> bool {
     let liberal = justification::liberal(rules, 255, 255, 255);
     let strict = justification::strict(rules, 255, 255, 255);
     let written = bundle::write(rules, &mut short);
-    let edits = (added.number == REFUSED_RECORD) & (removed.number == REFUSED_RECORD);
-    let questions = (eager.number == REFUSED_RECORD) & (lazy.number == REFUSED_RECORD);
-    let predicates = (liberal.number == REFUSED_RECORD) & (strict.number == REFUSED_RECORD);
-    (edits & questions) & (predicates & (written.number == REFUSED_RECORD))
+    let edits = (added.number == NOT_LOADABLE) & (removed.number == NOT_LOADABLE);
+    let questions = (eager.number == NOT_LOADABLE) & (lazy.number == NOT_LOADABLE);
+    let predicates = (liberal.number == NOT_LOADABLE) & (strict.number == NOT_LOADABLE);
+    (edits & questions) & (predicates & (written.number == NOT_LOADABLE))
 }
 
 // The line of a record: a caption, the calls' numbers, whether the record and the buffer were left and nothing was given, and whether 19 comes first.

@@ -1,4 +1,4 @@
--- The reader of one kind, line by line, for any kind that has a reader of its own.
+-- The lines of one kind, one after another, for any kind but head and end.
 use Prim.Native.Nat.{ℕ, _+_, _≤_, _<_}
 use mathlib.Core.Path.{_≡_, refl, sym, _∙_, ap}
 use mathlib.Core.Logic.{_≢_}
@@ -155,7 +155,7 @@ module _ (text : List ℕ) (k : Kind) (p : Proper k) (most : ℕ) (start : Stage
             read-on (reading (stage at r)) text (at .place) (f .within) (f .framed) k known (refusal ∙ sym e)
             ∙ (λ i. read (record { lines = at .lines + 1; last = code k; sum = at .sum + sym (f .summed) i; rules = appended k r (numbers k (f .os)) }) (lines (drop (sym (f .follows) i) text)))
 
--- ---- for the readers of the kinds
+-- ---- for the reader
 
 -- a stage that was refused before stays as it is
 pub reads-refused : (text : List ℕ) (k : Kind) (most : ℕ) (s : Stage) → s .at .number ≢ 0 → Reads text k most s s

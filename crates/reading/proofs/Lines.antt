@@ -15,7 +15,7 @@ use Rattle.common.specs.Refusals.{wrongKind}
 use Rattle.octets.specs.Line.{Framed, refused, octets, kindOctet, bodyOf, total, lineOf, restOf, frame, lines}
 use Rattle.octets.specs.LineLaws.{accepted, refused-is, next-line, lines-cons}
 use Rattle.octets.specs.WritingLaws.{Octets, octets-of-pairs}
-use Rattle.policy.specs.Table.{Kind, head, user, edge, formula, demarcation, hierarchy, principal, exclusion, prerequisite, method, end, code, isKind, count, kindOf}
+use Rattle.policy.specs.Table.{Kind, head, end, code, isKind, count, kindOf}
 use Rattle.policy.specs.TableLaws.{kind-of-code}
 use Rattle.policy.specs.Rows.{rowCauses, rowRefusal}
 use Rattle.reading.specs.declared.Next.the-variants.{Other, Refused, Body}
@@ -23,37 +23,10 @@ use Rattle.reading.specs.Body.{widths, numbers}
 use Rattle.reading.specs.Loading.{Reading, misplaced, endWrong, lineRefusal, afterLine, notLoaded, read}
 use Rattle.reading.specs.Stages.{nextIs, nextOf}
 
--- the kinds that have a reader of their own: neither head nor end
+-- the kinds that `read_kind` reads: neither head nor end
 pub record Proper (k : Kind) : Type 0 where
   pub low : 1 < code k
   pub high : code k ≤ 10
-
-pub proper-user : Proper user
-proper-user = record { low = omega arith; high = omega arith }
-
-pub proper-edge : Proper edge
-proper-edge = record { low = omega arith; high = omega arith }
-
-pub proper-formula : Proper formula
-proper-formula = record { low = omega arith; high = omega arith }
-
-pub proper-demarcation : Proper demarcation
-proper-demarcation = record { low = omega arith; high = omega arith }
-
-pub proper-hierarchy : Proper hierarchy
-proper-hierarchy = record { low = omega arith; high = omega arith }
-
-pub proper-principal : Proper principal
-proper-principal = record { low = omega arith; high = omega arith }
-
-pub proper-exclusion : Proper exclusion
-proper-exclusion = record { low = omega arith; high = omega arith }
-
-pub proper-prerequisite : Proper prerequisite
-proper-prerequisite = record { low = omega arith; high = omega arith }
-
-pub proper-method : Proper method
-proper-method = record { low = omega arith; high = omega arith }
 
 -- ---- misplaced lines
 

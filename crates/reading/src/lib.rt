@@ -1,10 +1,13 @@
-// Reading a bundle line by line: one line as one of a kind, and the readers of the kinds 01 to 05. `loading` has the others.
+// Reading a bundle line by line: one line as one of a kind, the first line, and one reader for the lines of any other kind but the end.
 
 ghost use mathlib.Core.Path.{_≡_};
-ghost use Prim.Native.Nat.{_+_, _≤_, _<_};
+ghost use Prim.Native.Nat.{ℕ, _+_, _*_, _≤_, _<_};
 ghost use lib.ListN.{length, drop};
-ghost use Rattle.policy.specs.Table.{user, edge, formula, demarcation};
+ghost use Rattle.common.specs.Lists.{at};
+ghost use Rattle.policy.specs.Table.{user, edge, formula, demarcation, code, kindOf};
+ghost use Rattle.policy.specs.Rows.{key};
 ghost use Rattle.reading.specs.Stages.{nextOf, numberAt, refusedAt, movedPast, Ready, Starts, Reads};
+ghost use Rattle.reading.specs.Kinds.{rowAt, fieldsOf, refusalBy, mostOf, Wanted};
 use octets::Line;
 use policy::Record;
 
@@ -57,7 +60,7 @@ pub fn next_line(text: &[u8], place: usize, kind: u8, size: usize) -> Next
                 return Next::Other;
             }
             if count != size {
-                return Next::Refused(common::REFUSED_KIND);
+                return Next::Refused(common::WRONG_KIND);
             }
             Next::Body {
                 next: next,
@@ -110,7 +113,7 @@ pub fn past(at: Cursor, kind: u8, next: usize, total: usize) -> Cursor
     }
 }
 
-// ---- the readers of the kinds: each takes the lines of its kind, from the stage that the one before it left
+// ---- the first line
 
 // Kind 01, the first line.
 pub fn read_head(text: &[u8]) -> Stage
@@ -126,7 +129,7 @@ pub fn read_head(text: &[u8]) -> Stage
     };
     let mut rules = policy::blank();
     match next_line(text, 0, 0x01, 5) {
-        Next::Other => stopped(at, common::REFUSED_KIND, rules),
+        Next::Other => stopped(at, common::WRONG_KIND, rules),
         Next::Refused(number) => stopped(at, number, rules),
         Next::Body { next, total } => {
             let version = octets::octet_at(text, 0, 2);
@@ -145,29 +148,114 @@ pub fn read_head(text: &[u8]) -> Stage
     }
 }
 
-// The roles of the user line at a place.
-fn roles_at(text: &[u8], place: usize) -> u16
-    ensures { λ r. ⌜ r ≡ numberAt (drop place (now (text .entry))) 3 2 ⌝ }
+// ---- the lines of one kind
+
+// The numbers that a line's body may hold: its first three octets, and its number of eight octets where the kind has one.
+pub struct Row {
+    pub a: u8,
+    pub b: u8,
+    pub c: u8,
+    pub wide: u64,
+}
+
+// The numbers of the line of a kind at a place.
+fn row_at(text: &[u8], place: usize, kind: u8) -> Row
+    ensures { λ r. ⌜ r ≡ rowAt kind (drop place (now (text .entry))) ⌝ }
 {
-    let high = octets::octet_at(text, place, 3);
-    let low = octets::octet_at(text, place, 4);
+    let a = octets::octet_at(text, place, 2);
+    let b = octets::octet_at(text, place, 3);
+    let c = octets::octet_at(text, place, 4);
+    if kind == 0x05 {
+        let wide = number_at(text, place, 2, 8);
+        return Row { a, b, c, wide };
+    }
+    if kind == 0x0A {
+        let wide = number_at(text, place, 3, 8);
+        return Row { a, b, c, wide };
+    }
+    Row {
+        a: a,
+        b: b,
+        c: c,
+        wide: 0,
+    }
+}
+
+// A number of two octets.
+fn two_octets(high: u8, low: u8) -> u16
+    ensures { λ r. ⌜ r ≡ high * 256 + low ⌝ }
+{
     (high as u16) * 256 + (low as u16)
 }
 
-// Kind 02.
-pub fn read_users(text: &[u8], from: Stage) -> Stage
-    requires { ⌜ (from .at .number ≡ 0 → Ready (now text) 0x02 1 from) ⌝ }
-    ensures { λ r. ⌜ Reads (now (text .entry)) user 1 from r ⌝ }
+// What refuses a line of a kind at place n of its table (5, 6, 7; 0 for nothing).
+fn row_refusal(
+    kind: u8,
+    n: usize,
+    objects: u8,
+    formulas: usize,
+    demarcations: usize,
+    principals: usize,
+    least: u32,
+    heights: [u8; 64],
+    row: Row,
+) -> u8
+    requires { ⌜ (1 < kind) × (kind ≤ 10) × (kind ≡ 0x04 → (g : ℕ) → at heights g < 255) ⌝ }
+    ensures { λ r. ⌜ r ≡ refusalBy (kindOf kind) n objects formulas demarcations principals least (at heights) row ⌝ }
+{
+    let a = row.a;
+    let b = row.b;
+    let c = row.c;
+    match kind {
+        0x02 => rows::user_refusal(objects, least, a),
+        0x03 => rows::edge_refusal(n, objects, least, a, b, c),
+        0x04 => {
+            let height = rows::formula_height(a, b, c, heights);
+            rows::formula_refusal(n, a, b, c, height)
+        }
+        0x05 => rows::demarcation_refusal(n),
+        0x06 => rows::pair_refusal(demarcations, least, a, b),
+        0x07 => rows::principal_refusal(n, formulas, demarcations, a, b),
+        0x08 => rows::exclusion_refusal(principals, least, a, b),
+        0x09 => rows::pair_refusal(principals, least, a, b),
+        _ => rows::method_refusal(n, a),
+    }
+}
+
+// The least key that may follow a line of a kind.
+fn after_row(kind: u8, row: Row) -> u32
+    requires { ⌜ code (kindOf kind) ≡ kind ⌝ }
+    ensures { λ r. ⌜ r ≡ key (kindOf kind) (fieldsOf (kindOf kind) row) + 1 ⌝ }
+{
+    let a = row.a;
+    let b = row.b;
+    let c = row.c;
+    match kind {
+        0x02 => rows::after_user(a),
+        0x03 => rows::after_edge(a, b, c),
+        0x06 => rows::after_pair(a, b),
+        0x08 => rows::after_pair(a, b),
+        0x09 => rows::after_pair(a, b),
+        _ => 1,
+    }
+}
+
+// Takes the lines of a kind, from the stage that the reader of the kind before left. The heights of the formulas read so far are kept beside them.
+pub fn read_kind(text: &[u8], kind: u8, size: usize, from: Stage) -> Stage
+    requires { ⌜ Wanted kind size × (from .at .number ≡ 0 → Ready (now text) kind (mostOf (kindOf kind)) from) ⌝ }
+    ensures { λ r. ⌜ Reads (now (text .entry)) (kindOf kind) (mostOf (kindOf kind)) from r ⌝ }
 {
     let mut at = from.at;
     if at.number != 0 {
         return from;
     }
     let mut rules = from.rules;
+    let mut n: usize = 0;
     let mut least: u32 = 0;
+    let mut heights = [0u8; 64];
     loop {
         let place = at.place;
-        match next_line(text, place, 0x02, 6) {
+        match next_line(text, place, kind, size) {
             Next::Other => {
                 return Stage { at, rules };
             }
@@ -175,22 +263,106 @@ pub fn read_users(text: &[u8], from: Stage) -> Stage
                 return stopped(at, number, rules);
             }
             Next::Body { next, total } => {
-                let object = octets::octet_at(text, place, 2);
-                let roles = roles_at(text, place);
-                let n = rules.user_count;
-                let number = rows::user_refusal(rules.objects, least, object);
+                let row = row_at(text, place, kind);
+                let objects = rules.objects;
+                let formulas = rules.formula_count;
+                let demarcations = rules.demarcation_count;
+                let principals = rules.principal_count;
+                let number = row_refusal(
+                    kind,
+                    n,
+                    objects,
+                    formulas,
+                    demarcations,
+                    principals,
+                    least,
+                    heights,
+                    row,
+                );
                 if number != 0 {
                     return stopped(at, number, rules);
                 }
-                rules.user_objects[n] = object;
-                rules.user_roles[n] = roles;
-                rules.user_count = n + 1;
-                least = rows::after_user(object);
-                let further = past(at, 0x02, next, total);
+                let a = row.a;
+                let b = row.b;
+                let c = row.c;
+                let wide = row.wide;
+                let roles = two_octets(b, c);
+                least = after_row(kind, row);
+                let further = past(at, kind, next, total);
                 at = further;
+                n += 1;
+                match kind {
+                    0x02 => {
+                        let i = rules.user_count;
+                        rules.user_objects[i] = a;
+                        rules.user_roles[i] = roles;
+                        rules.user_count = i + 1;
+                    }
+                    0x03 => {
+                        let i = rules.edge_count;
+                        rules.edge_labels[i] = a;
+                        rules.edge_sources[i] = b;
+                        rules.edge_targets[i] = c;
+                        rules.edge_count = i + 1;
+                    }
+                    0x04 => {
+                        let height = rows::formula_height(a, b, c, heights);
+                        let i = rules.formula_count;
+                        rules.formula_ops[i] = a;
+                        rules.formula_lefts[i] = b;
+                        rules.formula_rights[i] = c;
+                        heights[i] = height;
+                        rules.formula_count = i + 1;
+                    }
+                    0x05 => {
+                        let i = rules.demarcation_count;
+                        rules.demarcation_privileges[i] = wide;
+                        rules.demarcation_count = i + 1;
+                    }
+                    0x06 => {
+                        let i = rules.hierarchy_count;
+                        rules.inferiors[i] = a;
+                        rules.superiors[i] = b;
+                        rules.hierarchy_count = i + 1;
+                    }
+                    0x07 => {
+                        let i = rules.principal_count;
+                        rules.principal_formulas[i] = a;
+                        rules.principal_demarcations[i] = b;
+                        rules.principal_count = i + 1;
+                    }
+                    0x08 => {
+                        let i = rules.exclusion_count;
+                        rules.exclusion_lows[i] = a;
+                        rules.exclusion_highs[i] = b;
+                        rules.exclusion_count = i + 1;
+                    }
+                    0x09 => {
+                        let i = rules.prerequisite_count;
+                        rules.prerequisites[i] = a;
+                        rules.dependents[i] = b;
+                        rules.prerequisite_count = i + 1;
+                    }
+                    _ => {
+                        let i = rules.method_count;
+                        rules.method_forms[i] = a;
+                        rules.method_privileges[i] = wide;
+                        rules.method_count = i + 1;
+                    }
+                }
             }
         }
     }
+}
+
+// ---- the readers of the kinds, one after another
+
+// Kind 02.
+pub fn read_users(text: &[u8], from: Stage) -> Stage
+    requires { ⌜ (from .at .number ≡ 0 → Ready (now text) 0x02 1 from) ⌝ }
+    ensures { λ r. ⌜ Reads (now (text .entry)) user 1 from r ⌝ }
+{
+    read_kind(text, 0x02, 6, from)
 }
 
 // Kind 03.
@@ -198,82 +370,15 @@ pub fn read_edges(text: &[u8], from: Stage) -> Stage
     requires { ⌜ (from .at .number ≡ 0 → Ready (now text) 0x03 256 from) ⌝ }
     ensures { λ r. ⌜ Reads (now (text .entry)) edge 256 from r ⌝ }
 {
-    let mut at = from.at;
-    if at.number != 0 {
-        return from;
-    }
-    let mut rules = from.rules;
-    let mut least: u32 = 0;
-    loop {
-        let place = at.place;
-        match next_line(text, place, 0x03, 6) {
-            Next::Other => {
-                return Stage { at, rules };
-            }
-            Next::Refused(number) => {
-                return stopped(at, number, rules);
-            }
-            Next::Body { next, total } => {
-                let label = octets::octet_at(text, place, 2);
-                let source = octets::octet_at(text, place, 3);
-                let target = octets::octet_at(text, place, 4);
-                let n = rules.edge_count;
-                let number = rows::edge_refusal(n, rules.objects, least, label, source, target);
-                if number != 0 {
-                    return stopped(at, number, rules);
-                }
-                rules.edge_labels[n] = label;
-                rules.edge_sources[n] = source;
-                rules.edge_targets[n] = target;
-                rules.edge_count = n + 1;
-                least = rows::after_edge(label, source, target);
-                let further = past(at, 0x03, next, total);
-                at = further;
-            }
-        }
-    }
+    read_kind(text, 0x03, 6, from)
 }
 
-// Kind 04. The heights of the formulas read so far are kept beside them.
+// Kind 04.
 pub fn read_formulas(text: &[u8], from: Stage) -> Stage
     requires { ⌜ (from .at .number ≡ 0 → Ready (now text) 0x04 768 from) ⌝ }
     ensures { λ r. ⌜ Reads (now (text .entry)) formula 768 from r ⌝ }
 {
-    let mut at = from.at;
-    if at.number != 0 {
-        return from;
-    }
-    let mut rules = from.rules;
-    let mut heights = [0u8; 64];
-    loop {
-        let place = at.place;
-        match next_line(text, place, 0x04, 6) {
-            Next::Other => {
-                return Stage { at, rules };
-            }
-            Next::Refused(number) => {
-                return stopped(at, number, rules);
-            }
-            Next::Body { next, total } => {
-                let op = octets::octet_at(text, place, 2);
-                let a = octets::octet_at(text, place, 3);
-                let b = octets::octet_at(text, place, 4);
-                let height = rows::formula_height(op, a, b, heights);
-                let n = rules.formula_count;
-                let number = rows::formula_refusal(n, op, a, b, height);
-                if number != 0 {
-                    return stopped(at, number, rules);
-                }
-                rules.formula_ops[n] = op;
-                rules.formula_lefts[n] = a;
-                rules.formula_rights[n] = b;
-                heights[n] = height;
-                rules.formula_count = n + 1;
-                let further = past(at, 0x04, next, total);
-                at = further;
-            }
-        }
-    }
+    read_kind(text, 0x04, 6, from)
 }
 
 // Kind 05.
@@ -281,32 +386,5 @@ pub fn read_demarcations(text: &[u8], from: Stage) -> Stage
     requires { ⌜ (from .at .number ≡ 0 → Ready (now text) 0x05 832 from) ⌝ }
     ensures { λ r. ⌜ Reads (now (text .entry)) demarcation 832 from r ⌝ }
 {
-    let mut at = from.at;
-    if at.number != 0 {
-        return from;
-    }
-    let mut rules = from.rules;
-    loop {
-        let place = at.place;
-        match next_line(text, place, 0x05, 11) {
-            Next::Other => {
-                return Stage { at, rules };
-            }
-            Next::Refused(number) => {
-                return stopped(at, number, rules);
-            }
-            Next::Body { next, total } => {
-                let privileges = number_at(text, place, 2, 8);
-                let n = rules.demarcation_count;
-                let number = rows::demarcation_refusal(n);
-                if number != 0 {
-                    return stopped(at, number, rules);
-                }
-                rules.demarcation_privileges[n] = privileges;
-                rules.demarcation_count = n + 1;
-                let further = past(at, 0x05, next, total);
-                at = further;
-            }
-        }
-    }
+    read_kind(text, 0x05, 11, from)
 }

@@ -10,22 +10,22 @@ ghost use Rattle.common.specs.Causes.{first};
 ghost use Rattle.rows.specs.Op.{opOf, partsInRange, heightOf, formulaInRange};
 ghost use Rattle.rows.specs.Checks.{causes, edgeInRange, pairInRange, edgeKey, pairKey};
 use common::ACCEPTED;
-use common::REFUSED_LIMIT;
-use common::REFUSED_ORDER;
-use common::REFUSED_RANGE;
+use common::NOT_RISING;
+use common::OUT_OF_RANGE;
+use common::OVER_LIMIT;
 
 // The first cause that is there: over the limit, out of range, not rising.
 pub fn first_cause(over: bool, out: bool, falls: bool) -> u8
     ensures { λ r. ⌜ r ≡ first (causes over out falls) ⌝ }
 {
     if over {
-        return REFUSED_LIMIT;
+        return OVER_LIMIT;
     }
     if out {
-        return REFUSED_RANGE;
+        return OUT_OF_RANGE;
     }
     if falls {
-        return REFUSED_ORDER;
+        return NOT_RISING;
     }
     ACCEPTED
 }
