@@ -21,6 +21,7 @@ use Rattle.formula.specs.Formula.{holds}
 use Rattle.formula.specs.Evaluation.{Sets}
 use Rattle.formula.specs.EvaluationLaws.{setting-holds}
 use Rattle.justification.specs.Justification.{members, candidates, least}
+use Rattle.justification.specs.declared.Question.{Question}
 use Rattle.justification.specs.Predicates.{questionRefusal}
 use Rattle.justification.specs.NamedLaws.{principal-named}
 use Rattle.justification.specs.Parts.{Marks}
@@ -36,50 +37,50 @@ marks-member : {n s : ℕ} {t : ℕ → Bool} → Marks n t s → (p : ℕ) → 
 marks-member {n} {s} {t} h p l = same-test (member p s) (t p) (λ e. h .only p (member-in e) .1, λ e. in-member (h .all p l e))
 
 -- evaluation in the setting is evaluation afresh
-pub truth-same : (r : Record) (o s : ℕ) (q : Setting) → ((j : Kind) → tableLoads r j ≡ true) → Sets r o s q
-    → (p : ℕ) → p < r .«principal_count» → trueAt q (formulaOf r p) ≡ truthAt r o s (formulaOf r p)
-truth-same r o s q loads made p l =
-    setting-holds r o s q made (formulaOf r p) (q .object) (principal-named r loads p l .0) (table-few r formula (loads formula))
-    ∙ ap (λ (v : ℕ). holds r (formulaOf r p) v o s) (made .object)
+pub truth-same : (r : Record) (q : Question) (x : Setting) → ((j : Kind) → tableLoads r j ≡ true) → Sets r (q .object) (q .requestor) x
+    → (p : ℕ) → p < r .«principal_count» → trueAt x (formulaOf r p) ≡ truthAt r q (formulaOf r p)
+truth-same r q x loads made p l =
+    setting-holds r (q .object) (q .requestor) x made (formulaOf r p) (x .object) (principal-named r loads p l .0) (table-few r formula (loads formula))
+    ∙ ap (λ (v : ℕ). holds r (formulaOf r p) v (q .object) (q .requestor)) (made .object)
 
-module _ (r : Record) (m o s : ℕ) where
-  pub eager-refused : {n : ℕ} → n ≡ questionRefusal r m o s → n ≢ 0 → refused n r ≡ eager r m o s
+module _ (r : Record) (q : Question) where
+  pub eager-refused : {n : ℕ} → n ≡ questionRefusal r q → n ≢ 0 → refused n r ≡ eager r q
   unfolding eager
-  eager-refused e h = sym (rw (ne-eqb (questionRefusal r m o s) 0 (λ z. h (e ∙ z))) (ap (λ (n : ℕ). refused n r) (sym e)))
+  eager-refused e h = sym (rw (ne-eqb (questionRefusal r q) 0 (λ z. h (e ∙ z))) (ap (λ (n : ℕ). refused n r) (sym e)))
 
-  pub lazy-refused : {n : ℕ} → n ≡ questionRefusal r m o s → n ≢ 0 → refused n r ≡ lazy r m o s
+  pub lazy-refused : {n : ℕ} → n ≡ questionRefusal r q → n ≢ 0 → refused n r ≡ lazy r q
   unfolding lazy
-  lazy-refused e h = sym (rw (ne-eqb (questionRefusal r m o s) 0 (λ z. h (e ∙ z))) (ap (λ (n : ℕ). refused n r) (sym e)))
+  lazy-refused e h = sym (rw (ne-eqb (questionRefusal r q) 0 (λ z. h (e ∙ z))) (ap (λ (n : ℕ). refused n r) (sym e)))
 
-  eager-is : 0 ≡ questionRefusal r m o s
-      → answered r (memoFor (r .memo) o s) (eagerly r m (evaluatedAll (truthAt r o s) r (memoFor (r .memo) o s) (below (r .«principal_count»)))) ≡ eager r m o s
+  eager-is : 0 ≡ questionRefusal r q
+      → answered r (memoFor (r .memo) q) (eagerly r (q .method) (evaluatedAll (truthAt r q) r (memoFor (r .memo) q) (below (r .«principal_count»)))) ≡ eager r q
   unfolding eager
-  eager-is e = λ i. asked r (e i) (answered r (memoFor (r .memo) o s) (eagerly r m (evaluatedAll (truthAt r o s) r (memoFor (r .memo) o s) (below (r .«principal_count»)))))
+  eager-is e = λ i. asked r (e i) (answered r (memoFor (r .memo) q) (eagerly r (q .method) (evaluatedAll (truthAt r q) r (memoFor (r .memo) q) (below (r .«principal_count»)))))
 
-  lazy-is : 0 ≡ questionRefusal r m o s → answered r (memoFor (r .memo) o s) (walk (truthAt r o s) r (memoFor (r .memo) o s) (candidates r m)) ≡ lazy r m o s
+  lazy-is : 0 ≡ questionRefusal r q → answered r (memoFor (r .memo) q) (walk (truthAt r q) r (memoFor (r .memo) q) (candidates r (q .method))) ≡ lazy r q
   unfolding lazy
-  lazy-is e = λ i. asked r (e i) (answered r (memoFor (r .memo) o s) (walk (truthAt r o s) r (memoFor (r .memo) o s) (candidates r m)))
+  lazy-is e = λ i. asked r (e i) (answered r (memoFor (r .memo) q) (walk (truthAt r q) r (memoFor (r .memo) q) (candidates r (q .method))))
 
-  module _ (loads : (j : Kind) → tableLoads r j ≡ true) (zero-number : 0 ≡ questionRefusal r m o s) (q : Setting) (made : Sets r o s q) {before : Memo} (first : before ≡ memoFor (r .memo) o s) where
+  module _ (loads : (j : Kind) → tableLoads r j ≡ true) (zero-number : 0 ≡ questionRefusal r q) (x : Setting) (made : Sets r (q .object) (q .requestor) x) {before : Memo} (first : before ≡ memoFor (r .memo) q) where
     -- eager: all evaluated, then the least set of those with the value true
-    pub eager-answer : {after : Memo} {enabled : ℕ} {found : Option ℕ} → after ≡ evaluatedAll (trueAt q) r before (below (r .«principal_count»))
-        → Marks (r .«principal_count») (λ p. value after (formulaOf r p)) enabled → found ≡ least r m (λ p. member p enabled) → answered r before (outcome after found) ≡ eager r m o s
+    pub eager-answer : {after : Memo} {enabled : ℕ} {found : Option ℕ} → after ≡ evaluatedAll (trueAt x) r before (below (r .«principal_count»))
+        → Marks (r .«principal_count») (λ p. value after (formulaOf r p)) enabled → found ≡ least r (q .method) (λ p. member p enabled) → answered r before (outcome after found) ≡ eager r q
     unfolding eagerly
     eager-answer {after} {enabled} {found} e marks f =
-        let same : after ≡ evaluatedAll (truthAt r o s) r (memoFor (r .memo) o s) (below (r .«principal_count»)) =
-        e ∙ evaluated-ext (trueAt q) (truthAt r o s) r (truth-same r o s q loads made) before ∙ ap (λ (k : Memo). evaluatedAll (truthAt r o s) r k (below (r .«principal_count»))) first in
-        let chosen : found ≡ least r m (λ p. value after (formulaOf r p)) = f ∙ least-ext r m (λ p. member p enabled) (λ p. value after (formulaOf r p)) (marks-member marks) in
+        let same : after ≡ evaluatedAll (truthAt r q) r (memoFor (r .memo) q) (below (r .«principal_count»)) =
+        e ∙ evaluated-ext (trueAt x) (truthAt r q) r (truth-same r q x loads made) before ∙ ap (λ (k : Memo). evaluatedAll (truthAt r q) r k (below (r .«principal_count»))) first in
+        let chosen : found ≡ least r (q .method) (λ p. value after (formulaOf r p)) = f ∙ least-ext r (q .method) (λ p. member p enabled) (λ p. value after (formulaOf r p)) (marks-member marks) in
         (λ i. answered r (first i) (outcome after (chosen i)))
-        ∙ ap (λ (k : Memo). answered r (memoFor (r .memo) o s) (eagerly r m k)) same
+        ∙ ap (λ (k : Memo). answered r (memoFor (r .memo) q) (eagerly r (q .method) k)) same
         ∙ eager-is zero-number
 
     -- lazy: the outcome of at most P + 1 searches
-    pub lazy-answer : Roomy before → answered r before (searching (r .«principal_count» + 1) (trueAt q) r m before) ≡ lazy r m o s
+    pub lazy-answer : Roomy before → answered r before (searching (r .«principal_count» + 1) (trueAt x) r (q .method) before) ≡ lazy r q
     lazy-answer roomy =
         ap (answered r before)
-        (searching-ext (trueAt q) (truthAt r o s) r (truth-same r o s q loads made) (r .«principal_count» + 1) m before
-        ∙ sym (walk-searches (truthAt r o s) r m before (grounded r loads) roomy))
-        ∙ ap (λ (k : Memo). answered r k (walk (truthAt r o s) r k (candidates r m))) first
+        (searching-ext (trueAt x) (truthAt r q) r (truth-same r q x loads made) (r .«principal_count» + 1) (q .method) before
+        ∙ sym (walk-searches (truthAt r q) r (q .method) before (grounded r loads) roomy))
+        ∙ ap (λ (k : Memo). answered r k (walk (truthAt r q) r k (candidates r (q .method)))) first
         ∙ lazy-is zero-number
 
 -- ---- the answer, with the record as it is left

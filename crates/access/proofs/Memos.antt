@@ -14,21 +14,22 @@ use Rattle.common.specs.BoolLaws.{and-false}
 use Rattle.policy.specs.declared.Memo.{Memo}
 use Rattle.policy.specs.Table.{emptied}
 use Rattle.policy.specs.declared.Record.{Record}
+use Rattle.justification.specs.declared.Question.{Question}
 use Rattle.justification.specs.Walk.{known, noted, evaluated, formulaOf, evaluatedAll}
 use Rattle.access.specs.Access.{memoFor, newly}
 
-module _ (m : Memo) (o s : ℕ) where
-  pub same-pair : m .object ≡ o → m .requestor ≡ s → m ≡ memoFor m o s
+module _ (m : Memo) (q : Question) where
+  pub same-pair : m .object ≡ q .object → m .requestor ≡ q .requestor → m ≡ memoFor m q
   unfolding memoFor
-  same-pair e f = rw (eq-eqb (m .object) o e, eq-eqb (m .requestor) s f) refl
+  same-pair e f = rw (eq-eqb (m .object) (q .object) e, eq-eqb (m .requestor) (q .requestor) f) refl
 
-  pub other-object : m .object ≢ o → emptied o s ≡ memoFor m o s
+  pub other-object : m .object ≢ q .object → emptied (q .object) (q .requestor) ≡ memoFor m q
   unfolding memoFor
-  other-object h = rw (ne-eqb (m .object) o h) refl
+  other-object h = rw (ne-eqb (m .object) (q .object) h) refl
 
-  pub other-requestor : m .requestor ≢ s → emptied o s ≡ memoFor m o s
+  pub other-requestor : m .requestor ≢ q .requestor → emptied (q .object) (q .requestor) ≡ memoFor m q
   unfolding memoFor
-  other-requestor h = rw (ne-eqb (m .requestor) s h, and-false (eqb (m .object) o)) refl
+  other-requestor h = rw (ne-eqb (m .requestor) (q .requestor) h, and-false (eqb (m .object) (q .object))) refl
 
 module _ (truth : ℕ → Bool) (m : Memo) (f : ℕ) where
   pub known-already : known m f ≡ true → m ≡ evaluated truth m f

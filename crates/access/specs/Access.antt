@@ -10,17 +10,18 @@ use Rattle.policy.specs.declared.Memo.{Memo}
 use Rattle.policy.specs.Table.{emptied, withMemo}
 use Rattle.formula.specs.Formula.{holds}
 use Rattle.justification.specs.Justification.{candidates}
+use Rattle.justification.specs.declared.Question.{Question}
 use Rattle.justification.specs.Predicates.{questionRefusal}
 use Rattle.justification.specs.Walk.{known, Outcome, granted, denied, evaluatedAll, eagerly, walk}
 use Rattle.access.specs.declared.Answer.{Answer}
 
 -- the memo for a question: if its pair differs, it is first emptied and takes the new pair
-unfoldable pub memoFor : Memo → ℕ → ℕ → Memo
-memoFor m o s = cond (eqb (m .object) o && eqb (m .requestor) s) m (emptied o s)
+unfoldable pub memoFor : Memo → Question → Memo
+memoFor m q = cond (eqb (m .object) (q .object) && eqb (m .requestor) (q .requestor)) m (emptied (q .object) (q .requestor))
 
 -- what a formula comes to, evaluated afresh at the object
-abbrev pub truthAt : Record → ℕ → ℕ → ℕ → Bool
-truthAt r o s f = holds r f o o s
+abbrev pub truthAt : Record → Question → ℕ → Bool
+truthAt r q f = holds r f (q .object) (q .object) (q .requestor)
 
 -- the evaluations: the formulas known after and not known before
 unfoldable pub newly : Memo → Memo → ℕ
@@ -39,11 +40,11 @@ abbrev pub asked : Record → ℕ → Answer → Answer
 asked r n answer = cond (eqb n 0) answer (refused n r)
 
 -- eager: each principal in rising number has its formula evaluated unless known; then the least set of enabled principals
-unfoldable pub eager : Record → ℕ → ℕ → ℕ → Answer
-eager r m o s =
-    asked r (questionRefusal r m o s)
-    (answered r (memoFor (r .memo) o s) (eagerly r m (evaluatedAll (truthAt r o s) r (memoFor (r .memo) o s) (below (r .«principal_count»)))))
+unfoldable pub eager : Record → Question → Answer
+eager r q =
+    asked r (questionRefusal r q)
+    (answered r (memoFor (r .memo) q) (eagerly r (q .method) (evaluatedAll (truthAt r q) r (memoFor (r .memo) q) (below (r .«principal_count»)))))
 
 -- lazy: the candidates from all principals, least first; the first that survives
-unfoldable pub lazy : Record → ℕ → ℕ → ℕ → Answer
-lazy r m o s = asked r (questionRefusal r m o s) (answered r (memoFor (r .memo) o s) (walk (truthAt r o s) r (memoFor (r .memo) o s) (candidates r m)))
+unfoldable pub lazy : Record → Question → Answer
+lazy r q = asked r (questionRefusal r q) (answered r (memoFor (r .memo) q) (walk (truthAt r q) r (memoFor (r .memo) q) (candidates r (q .method))))

@@ -22,6 +22,7 @@ use Rattle.policy.specs.Table.{Kind, formula, emptied}
 use Rattle.policy.specs.Loadable.{tableLoads, loadable}
 use Rattle.policy.specs.LoadableLaws.{table-few, loadable-table}
 use Rattle.justification.specs.Justification.{members, candidates, least}
+use Rattle.justification.specs.declared.Question.{Question}
 use Rattle.justification.specs.Predicates.{questionRefusal}
 use Rattle.justification.specs.Walk.{known, value, noted, evaluated, formulaOf, Outcome, granted, denied, outcome, chosen, evaluatedAll, eagerly}
 use Rattle.justification.specs.Walk.{Weighed, survives, ends, tried, knownFalse, weighed, goOn, walk, tryNext, searching}
@@ -66,11 +67,11 @@ grounded r loads =
     all-below (λ p. formulaOf r p < 64) (r .«principal_count»)
     (λ p l. let (f, d) = principal-named r loads p l in let few = table-few r formula (loads formula) in omega arith)
 
-pub roomy-for : (m : Memo) (o s : ℕ) → Roomy m → Roomy (memoFor m o s)
+pub roomy-for : (m : Memo) (q : Question) → Roomy m → Roomy (memoFor m q)
 unfolding memoFor emptied
-roomy-for m o s h = go (eqb (m .object) o && eqb (m .requestor) s)
+roomy-for m q h = go (eqb (m .object) (q .object) && eqb (m .requestor) (q .requestor))
   where
-    go : (b : Bool) → Roomy (cond b m (emptied o s))
+    go : (b : Bool) → Roomy (cond b m (emptied (q .object) (q .requestor)))
     go true = h
     go false = record { knowns = refl; values = refl }
 
@@ -150,15 +151,15 @@ either-way r n x y h = go (eqb n 0)
     go true = h
     go false = record { number = refl; set = refl }
 
-pub same-answer : (r : Record) (m o s : ℕ) → Grounded r (below (r .«principal_count»)) → Roomy (r .memo) → Alike (eager r m o s) (lazy r m o s)
+pub same-answer : (r : Record) (q : Question) → Grounded r (below (r .«principal_count»)) → Roomy (r .memo) → Alike (eager r q) (lazy r q)
 unfolding eager lazy
-same-answer r m o s all h =
-    either-way r (questionRefusal r m o s) _ _
-    (answers r before (eagerly r m (evaluatedAll (truthAt r o s) r before (below (r .«principal_count»)))) (walk (truthAt r o s) r before (candidates r m))
-    (agree (truthAt r o s) r m before all (roomy-for (r .memo) o s h)))
+same-answer r q all h =
+    either-way r (questionRefusal r q) _ _
+    (answers r before (eagerly r (q .method) (evaluatedAll (truthAt r q) r before (below (r .«principal_count»)))) (walk (truthAt r q) r before (candidates r (q .method)))
+    (agree (truthAt r q) r (q .method) before all (roomy-for (r .memo) q h)))
   where
     before : Memo
-    before = memoFor (r .memo) o s
+    before = memoFor (r .memo) q
 
 -- ---- lazy evaluates no more than eager
 
@@ -251,60 +252,60 @@ either-count r n x y h = go (eqb n 0)
     go true = h
     go false = omega arith
 
-pub fewer-evaluations : (r : Record) (m o s : ℕ) → Grounded r (below (r .«principal_count»)) → Roomy (r .memo)
-    → lazy r m o s .evaluations ≤ eager r m o s .evaluations
+pub fewer-evaluations : (r : Record) (q : Question) → Grounded r (below (r .«principal_count»)) → Roomy (r .memo)
+    → lazy r q .evaluations ≤ eager r q .evaluations
 unfolding eager lazy
-fewer-evaluations r m o s all h =
-    either-count r (questionRefusal r m o s) _ _
-    (rw (counted r before (walk truth r before (candidates r m)), counted r before (eagerly r m after), left-eagerly r m after)
-    (newly-fewer before (left (walk truth r before (candidates r m))) after
-    (walk-within (known after) truth r (candidates r m) before (all-known truth r (below (r .«principal_count»)) before roomy all)
+fewer-evaluations r q all h =
+    either-count r (questionRefusal r q) _ _
+    (rw (counted r before (walk truth r before (candidates r (q .method))), counted r before (eagerly r (q .method) after), left-eagerly r (q .method) after)
+    (newly-fewer before (left (walk truth r before (candidates r (q .method)))) after
+    (walk-within (known after) truth r (candidates r (q .method)) before (all-known truth r (below (r .«principal_count»)) before roomy all)
     (all-through truth r (below (r .«principal_count»)) before roomy all .keeps))))
   where
     truth : ℕ → Bool
-    truth = truthAt r o s
+    truth = truthAt r q
 
     before : Memo
-    before = memoFor (r .memo) o s
+    before = memoFor (r .memo) q
 
     roomy : Roomy before
-    roomy = roomy-for (r .memo) o s h
+    roomy = roomy-for (r .memo) q h
 
     after : Memo
     after = evaluatedAll truth r before (below (r .«principal_count»))
 
 -- ---- of every record (the memo's type says that it is `Roomy`)
 
-loads-when : (r : Record) (m o s : ℕ) → questionRefusal r m o s ≡ 0 → loadable r ≡ true
+loads-when : (r : Record) (q : Question) → questionRefusal r q ≡ 0 → loadable r ≡ true
 unfolding questionRefusal
-loads-when r m o s = go (loadable r) refl
+loads-when r q = go (loadable r) refl
   where
-    go : (b : Bool) → loadable r ≡ b → questionRefusal r m o s ≡ 0 → loadable r ≡ true
+    go : (b : Bool) → loadable r ≡ b → questionRefusal r q ≡ 0 → loadable r ≡ true
     go true e z = e
     go false e z = let x : notLoadable ≡ 0 = sym (rw e refl) ∙ z in absurd (omega arith)
 
-module _ (r : Record) (m o s : ℕ) (room : Roomy (r .memo)) where
-  refused-both : questionRefusal r m o s ≢ 0 → (eager r m o s ≡ refused (questionRefusal r m o s) r) × (lazy r m o s ≡ refused (questionRefusal r m o s) r)
+module _ (r : Record) (q : Question) (room : Roomy (r .memo)) where
+  refused-both : questionRefusal r q ≢ 0 → (eager r q ≡ refused (questionRefusal r q) r) × (lazy r q ≡ refused (questionRefusal r q) r)
   unfolding eager lazy
-  refused-both h = (rw (ne-eqb (questionRefusal r m o s) 0 h) refl, rw (ne-eqb (questionRefusal r m o s) 0 h) refl)
+  refused-both h = (rw (ne-eqb (questionRefusal r q) 0 h) refl, rw (ne-eqb (questionRefusal r q) 0 h) refl)
 
   -- FROM EQUAL RECORDS both forms return the same number and set
-  pub same-always : Alike (eager r m o s) (lazy r m o s)
-  same-always = go (eqb (questionRefusal r m o s) 0) refl
+  pub same-always : Alike (eager r q) (lazy r q)
+  same-always = go (eqb (questionRefusal r q) 0) refl
     where
-      go : (b : Bool) → eqb (questionRefusal r m o s) 0 ≡ b → Alike (eager r m o s) (lazy r m o s)
-      go true e = same-answer r m o s (grounded r (loadable-table r (loads-when r m o s (eqb-true (questionRefusal r m o s) 0 e)))) room
+      go : (b : Bool) → eqb (questionRefusal r q) 0 ≡ b → Alike (eager r q) (lazy r q)
+      go true e = same-answer r q (grounded r (loadable-table r (loads-when r q (eqb-true (questionRefusal r q) 0 e)))) room
       go false e =
-          let (x, y) = refused-both (eqb-false (questionRefusal r m o s) 0 e) in
+          let (x, y) = refused-both (eqb-false (questionRefusal r q) 0 e) in
           record { number = ap (λ (a : Answer). a .number) (x ∙ sym y); set = ap (λ (a : Answer). a .set) (x ∙ sym y) }
 
   -- and the lazy form at most as many evaluations
-  pub lazy-at-most : lazy r m o s .evaluations ≤ eager r m o s .evaluations
-  lazy-at-most = go (eqb (questionRefusal r m o s) 0) refl
+  pub lazy-at-most : lazy r q .evaluations ≤ eager r q .evaluations
+  lazy-at-most = go (eqb (questionRefusal r q) 0) refl
     where
-      go : (b : Bool) → eqb (questionRefusal r m o s) 0 ≡ b → lazy r m o s .evaluations ≤ eager r m o s .evaluations
-      go true e = fewer-evaluations r m o s (grounded r (loadable-table r (loads-when r m o s (eqb-true (questionRefusal r m o s) 0 e)))) room
+      go : (b : Bool) → eqb (questionRefusal r q) 0 ≡ b → lazy r q .evaluations ≤ eager r q .evaluations
+      go true e = fewer-evaluations r q (grounded r (loadable-table r (loads-when r q (eqb-true (questionRefusal r q) 0 e)))) room
       go false e =
-          let (x, y) = refused-both (eqb-false (questionRefusal r m o s) 0 e) in
-          let u : lazy r m o s .evaluations ≡ eager r m o s .evaluations = ap (λ (a : Answer). a .evaluations) (y ∙ sym x) in
+          let (x, y) = refused-both (eqb-false (questionRefusal r q) 0 e) in
+          let u : lazy r q .evaluations ≡ eager r q .evaluations = ap (λ (a : Answer). a .evaluations) (y ∙ sym x) in
           omega arith

@@ -19,6 +19,7 @@ use Rattle.policy.specs.Table.{Kind, emptied}
 use Rattle.policy.specs.Loadable.{tableLoads}
 use Rattle.formula.specs.Formula.{holds}
 use Rattle.justification.specs.Justification.{members, candidates, least}
+use Rattle.justification.specs.declared.Question.{Question}
 use Rattle.justification.specs.Predicates.{questionRefusal, isEnabled}
 use Rattle.justification.specs.Walk.{known, value, noted, evaluated, formulaOf, Outcome, granted, denied, outcome, chosen, evaluatedAll, eagerly}
 use Rattle.justification.specs.Walk.{Weighed, survives, ends, tried, knownFalse, weighed, goOn, walk}
@@ -36,29 +37,29 @@ unknown (suc n) zero = refl
 unknown (suc n) (suc f) = unknown n f
 
 -- an emptied memo knows nothing
-pub truthful-for : (r : Record) (m : Memo) (o s : ℕ) → Truthful r m → Truthful r (memoFor m o s)
+pub truthful-for : (r : Record) (m : Memo) (q : Question) → Truthful r m → Truthful r (memoFor m q)
 unfolding memoFor emptied
-truthful-for r m o s h = go (eqb (m .object) o && eqb (m .requestor) s)
+truthful-for r m q h = go (eqb (m .object) (q .object) && eqb (m .requestor) (q .requestor))
   where
-    go : (b : Bool) → Truthful r (cond b m (emptied o s))
+    go : (b : Bool) → Truthful r (cond b m (emptied (q .object) (q .requestor)))
     go true = h
     go false = record { values = λ f k. absurd (false≢true (sym (unknown 64 f) ∙ k)) }
 
-object-for : (m : Memo) (o s : ℕ) → memoFor m o s .object ≡ o
+object-for : (m : Memo) (q : Question) → memoFor m q .object ≡ q .object
 unfolding memoFor emptied
-object-for m o s =
-    go (eqb (m .object) o && eqb (m .requestor) s) (λ e. eqb-true (m .object) o (and-cases (eqb (m .object) o) (eqb (m .requestor) s) e .0))
+object-for m q =
+    go (eqb (m .object) (q .object) && eqb (m .requestor) (q .requestor)) (λ e. eqb-true (m .object) (q .object) (and-cases (eqb (m .object) (q .object)) (eqb (m .requestor) (q .requestor)) e .0))
   where
-    go : (b : Bool) → (b ≡ true → m .object ≡ o) → cond b m (emptied o s) .object ≡ o
+    go : (b : Bool) → (b ≡ true → m .object ≡ q .object) → cond b m (emptied (q .object) (q .requestor)) .object ≡ q .object
     go true h = h refl
     go false h = refl
 
-requestor-for : (m : Memo) (o s : ℕ) → memoFor m o s .requestor ≡ s
+requestor-for : (m : Memo) (q : Question) → memoFor m q .requestor ≡ q .requestor
 unfolding memoFor emptied
-requestor-for m o s =
-    go (eqb (m .object) o && eqb (m .requestor) s) (λ e. eqb-true (m .requestor) s (and-cases (eqb (m .object) o) (eqb (m .requestor) s) e .1))
+requestor-for m q =
+    go (eqb (m .object) (q .object) && eqb (m .requestor) (q .requestor)) (λ e. eqb-true (m .requestor) (q .requestor) (and-cases (eqb (m .object) (q .object)) (eqb (m .requestor) (q .requestor)) e .1))
   where
-    go : (b : Bool) → (b ≡ true → m .requestor ≡ s) → cond b m (emptied o s) .requestor ≡ s
+    go : (b : Bool) → (b ≡ true → m .requestor ≡ q .requestor) → cond b m (emptied (q .object) (q .requestor)) .requestor ≡ q .requestor
     go true h = h refl
     go false h = refl
 
@@ -66,42 +67,42 @@ chosen-outcome : (n : Memo) (a : Option ℕ) → chosen (outcome n a) ≡ a
 chosen-outcome n none = refl
 chosen-outcome n (some c) = refl
 
-module _ (r : Record) (o s : ℕ) where
-  -- a memo of the pair (o, s) that tells the truth
+module _ (r : Record) (q : Question) where
+  -- a memo of the question's pair that tells the truth
   record Kept (m : Memo) : Type 0 where
-    object : m .object ≡ o
-    requestor : m .requestor ≡ s
+    object : m .object ≡ q .object
+    requestor : m .requestor ≡ q .requestor
     roomy : Roomy m
-    values : (f : ℕ) → known m f ≡ true → value m f ≡ truthAt r o s f
+    values : (f : ℕ) → known m f ≡ true → value m f ≡ truthAt r q f
 
   kept-truthful : {m : Memo} → Kept m → Truthful r m
   kept-truthful h = record { values = λ f k. h .values f k ∙ sym (λ i. holds r f (h .object i) (h .object i) (h .requestor i)) }
 
-  kept-for : Roomy (r .memo) → Truthful r (r .memo) → Kept (memoFor (r .memo) o s)
+  kept-for : Roomy (r .memo) → Truthful r (r .memo) → Kept (memoFor (r .memo) q)
   kept-for room true-memo =
       record {
-        object = object-for (r .memo) o s;
-        requestor = requestor-for (r .memo) o s;
-        roomy = roomy-for (r .memo) o s room;
+        object = object-for (r .memo) q;
+        requestor = requestor-for (r .memo) q;
+        roomy = roomy-for (r .memo) q room;
         values = λ f k.
-            truthful-for r (r .memo) o s true-memo .values f k
-            ∙ (λ i. holds r f (object-for (r .memo) o s i) (object-for (r .memo) o s i) (requestor-for (r .memo) o s i));
+            truthful-for r (r .memo) q true-memo .values f k
+            ∙ (λ i. holds r f (object-for (r .memo) q i) (object-for (r .memo) q i) (requestor-for (r .memo) q i));
       }
 
   -- ---- evaluation keeps it
 
-  evaluated-kept : (m : Memo) (f : ℕ) → f < 64 → Kept m → Kept (evaluated (truthAt r o s) m f)
+  evaluated-kept : (m : Memo) (f : ℕ) → f < 64 → Kept m → Kept (evaluated (truthAt r q) m f)
   unfolding evaluated
   evaluated-kept m f l h = go (known m f)
     where
-      new : (g : ℕ) → Dec (g ≡ f) → known (noted m f (truthAt r o s f)) g ≡ true → value (noted m f (truthAt r o s f)) g ≡ truthAt r o s g
-      new g (yes q) k =
-          subst (λ (x : ℕ). value (noted m f (truthAt r o s f)) x ≡ truthAt r o s x) (sym q)
-          (getD-set-same (m .value) f (truthAt r o s f) false (let a = h .roomy .values in omega arith))
-      new g (no q) k =
-          getD-set-other (m .value) f g (truthAt r o s f) false q ∙ h .values g (sym (getD-set-other (m .known) f g true false q) ∙ k)
+      new : (g : ℕ) → Dec (g ≡ f) → known (noted m f (truthAt r q f)) g ≡ true → value (noted m f (truthAt r q f)) g ≡ truthAt r q g
+      new g (yes i) k =
+          subst (λ (x : ℕ). value (noted m f (truthAt r q f)) x ≡ truthAt r q x) (sym i)
+          (getD-set-same (m .value) f (truthAt r q f) false (let a = h .roomy .values in omega arith))
+      new g (no i) k =
+          getD-set-other (m .value) f g (truthAt r q f) false i ∙ h .values g (sym (getD-set-other (m .known) f g true false i) ∙ k)
 
-      go : (b : Bool) → Kept (cond b m (noted m f (truthAt r o s f)))
+      go : (b : Bool) → Kept (cond b m (noted m f (truthAt r q f)))
       go true = h
       go false =
           record {
@@ -109,49 +110,49 @@ module _ (r : Record) (o s : ℕ) where
             requestor = h .requestor;
             roomy = record {
               knowns = length-set (m .known) f true ∙ h .roomy .knowns;
-              values = length-set (m .value) f (truthAt r o s f) ∙ h .roomy .values;
+              values = length-set (m .value) f (truthAt r q f) ∙ h .roomy .values;
             };
             values = λ g. new g (ℕ-discrete g f);
           }
 
-  all-kept : (ps : List ℕ) (m : Memo) → Grounded r ps → Kept m → Kept (evaluatedAll (truthAt r o s) r m ps)
+  all-kept : (ps : List ℕ) (m : Memo) → Grounded r ps → Kept m → Kept (evaluatedAll (truthAt r q) r m ps)
   unfolding evaluatedAll
   all-kept [] m g h = h
-  all-kept (p ∷ ps) m g h = all-kept ps (evaluated (truthAt r o s) m (formulaOf r p)) (g .1) (evaluated-kept m (formulaOf r p) (g .0) h)
+  all-kept (p ∷ ps) m g h = all-kept ps (evaluated (truthAt r q) m (formulaOf r p)) (g .1) (evaluated-kept m (formulaOf r p) (g .0) h)
 
-  tried-kept : (ps : List ℕ) (m : Memo) → Grounded r ps → Kept m → Kept (weighedLeft (tried (truthAt r o s) r m ps))
+  tried-kept : (ps : List ℕ) (m : Memo) → Grounded r ps → Kept m → Kept (weighedLeft (tried (truthAt r q) r m ps))
   unfolding tried
   tried-kept [] m g h = h
   tried-kept (p ∷ ps) m g h = go (value n (formulaOf r p)) (tried-kept ps n (g .1) kept)
     where
       n : Memo
-      n = evaluated (truthAt r o s) m (formulaOf r p)
+      n = evaluated (truthAt r q) m (formulaOf r p)
 
       kept : Kept n
       kept = evaluated-kept m (formulaOf r p) (g .0) h
 
-      go : (b : Bool) → Kept (weighedLeft (tried (truthAt r o s) r n ps)) → Kept (weighedLeft (cond b (tried (truthAt r o s) r n ps) (ends n)))
+      go : (b : Bool) → Kept (weighedLeft (tried (truthAt r q) r n ps)) → Kept (weighedLeft (cond b (tried (truthAt r q) r n ps) (ends n)))
       go true w = w
       go false w = kept
 
-  weighed-kept : (ps : List ℕ) (m : Memo) → Grounded r ps → Kept m → Kept (weighedLeft (weighed (truthAt r o s) r m ps))
+  weighed-kept : (ps : List ℕ) (m : Memo) → Grounded r ps → Kept m → Kept (weighedLeft (weighed (truthAt r q) r m ps))
   unfolding weighed
   weighed-kept ps m g h = go (any (knownFalse r m) ps)
     where
-      go : (b : Bool) → Kept (weighedLeft (cond b (ends m) (tried (truthAt r o s) r m ps)))
+      go : (b : Bool) → Kept (weighedLeft (cond b (ends m) (tried (truthAt r q) r m ps)))
       go true = h
       go false = tried-kept ps m g h
 
-  walk-kept : (cs : List ℕ) (m : Memo) → Grounded r (below (r .«principal_count»)) → Kept m → Kept (left (walk (truthAt r o s) r m cs))
+  walk-kept : (cs : List ℕ) (m : Memo) → Grounded r (below (r .«principal_count»)) → Kept m → Kept (left (walk (truthAt r q) r m cs))
   unfolding walk
   walk-kept [] m g h = h
   walk-kept (c ∷ cs) m g h =
-      go (weighed (truthAt r o s) r m (members r c))
+      go (weighed (truthAt r q) r m (members r c))
       (weighed-kept (members r c) m (all-those (λ p. formulaOf r p < 64) (λ p. member p c) (below (r .«principal_count»)) g) h)
       (λ n. walk-kept cs n g)
     where
-      go : (w : Weighed) → Kept (weighedLeft w) → ((n : Memo) → Kept n → Kept (left (walk (truthAt r o s) r n cs)))
-          → Kept (left (goOn c w (λ after. walk (truthAt r o s) r after cs)))
+      go : (w : Weighed) → Kept (weighedLeft w) → ((n : Memo) → Kept n → Kept (left (walk (truthAt r q) r n cs)))
+          → Kept (left (goOn c w (λ after. walk (truthAt r q) r after cs)))
       go (survives n) k ih = k
       go (ends n) k ih = ih n k
 
@@ -159,29 +160,29 @@ module _ (r : Record) (o s : ℕ) where
 
   -- where the formulas are known, the values say who is enabled
   enabled-values : {m : Memo} → Kept m → (ps : List ℕ) → All (λ p. known m (formulaOf r p) ≡ true) ps
-      → All (λ p. value m (formulaOf r p) ≡ isEnabled r o s p) ps
+      → All (λ p. value m (formulaOf r p) ≡ isEnabled r q p) ps
   unfolding isEnabled
   enabled-values h [] a = tt
   enabled-values h (p ∷ ps) a = (h .values (formulaOf r p) (a .0), enabled-values h ps (a .1))
 
-  module _ (m : ℕ) where
+  module _ where
     -- the least set of the enabled, with a memo that is kept
-    judges : (before : Memo) (a : Outcome) → chosen a ≡ least r m (isEnabled r o s) → Kept (left a) → Judged r m o s (answered r before a)
+    judges : (before : Memo) (a : Outcome) → chosen a ≡ least r (q .method) (isEnabled r q) → Kept (left a) → Judged r q (answered r before a)
     unfolding answered
     judges before (granted c n) e k =
         record { number = ap numberOf e; set = ap setOf e; memo = n; left = refl; roomy = k .roomy; truthful = kept-truthful k }
     judges before (denied n) e k =
         record { number = ap numberOf e; set = ap setOf e; memo = n; left = refl; roomy = k .roomy; truthful = kept-truthful k }
 
-    not-refused : {n : ℕ} → n ≡ 0 → (a : Answer) → Judged r m o s a → Judged r m o s (asked r n a)
-    not-refused e a j = subst (λ (n : ℕ). Judged r m o s (asked r n a)) (sym e) j
+    not-refused : {n : ℕ} → n ≡ 0 → (a : Answer) → Judged r q a → Judged r q (asked r n a)
+    not-refused e a j = subst (λ (n : ℕ). Judged r q (asked r n a)) (sym e) j
 
     module _ (loads : (j : Kind) → tableLoads r j ≡ true) (room : Roomy (r .memo)) (true-memo : Truthful r (r .memo)) where
       abbrev before : Memo
-      before = memoFor (r .memo) o s
+      before = memoFor (r .memo) q
 
       abbrev after : Memo
-      after = evaluatedAll (truthAt r o s) r before (below (r .«principal_count»))
+      after = evaluatedAll (truthAt r q) r before (below (r .«principal_count»))
 
       kept-before : Kept before
       kept-before = kept-for room true-memo
@@ -189,27 +190,27 @@ module _ (r : Record) (o s : ℕ) where
       kept-after : Kept after
       kept-after = all-kept (below (r .«principal_count»)) before (grounded r loads) kept-before
 
-      chosen-eager : chosen (eagerly r m after) ≡ least r m (isEnabled r o s)
+      chosen-eager : chosen (eagerly r (q .method) after) ≡ least r (q .method) (isEnabled r q)
       unfolding eagerly
       chosen-eager =
-          chosen-outcome after (least r m (λ p. value after (formulaOf r p)))
-          ∙ least-all r m (λ p. value after (formulaOf r p)) (isEnabled r o s)
-          (enabled-values kept-after (below (r .«principal_count»)) (all-known (truthAt r o s) r (below (r .«principal_count»)) before (kept-before .roomy) (grounded r loads)))
+          chosen-outcome after (least r (q .method) (λ p. value after (formulaOf r p)))
+          ∙ least-all r (q .method) (λ p. value after (formulaOf r p)) (isEnabled r q)
+          (enabled-values kept-after (below (r .«principal_count»)) (all-known (truthAt r q) r (below (r .«principal_count»)) before (kept-before .roomy) (grounded r loads)))
 
-      judges-eager : Judged r m o s (answered r before (eagerly r m after))
-      judges-eager = judges before (eagerly r m after) chosen-eager (subst Kept (sym (left-eagerly r m after)) kept-after)
+      judges-eager : Judged r q (answered r before (eagerly r (q .method) after))
+      judges-eager = judges before (eagerly r (q .method) after) chosen-eager (subst Kept (sym (left-eagerly r (q .method) after)) kept-after)
 
-      judges-lazy : Judged r m o s (answered r before (walk (truthAt r o s) r before (candidates r m)))
+      judges-lazy : Judged r q (answered r before (walk (truthAt r q) r before (candidates r (q .method))))
       judges-lazy =
-          judges before (walk (truthAt r o s) r before (candidates r m))
-          (sym (agree (truthAt r o s) r m before (grounded r loads) (kept-before .roomy)) ∙ chosen-eager)
-          (walk-kept (candidates r m) before (grounded r loads) kept-before)
+          judges before (walk (truthAt r q) r before (candidates r (q .method)))
+          (sym (agree (truthAt r q) r (q .method) before (grounded r loads) (kept-before .roomy)) ∙ chosen-eager)
+          (walk-kept (candidates r (q .method)) before (grounded r loads) kept-before)
 
-module _ (r : Record) (loads : (j : Kind) → tableLoads r j ≡ true) (room : Roomy (r .memo)) (true-memo : Truthful r (r .memo)) (m o s : ℕ) (taken : questionRefusal r m o s ≡ 0) where
-  pub eager-true : Judged r m o s (eager r m o s)
+module _ (r : Record) (loads : (j : Kind) → tableLoads r j ≡ true) (room : Roomy (r .memo)) (true-memo : Truthful r (r .memo)) (q : Question) (taken : questionRefusal r q ≡ 0) where
+  pub eager-true : Judged r q (eager r q)
   unfolding eager
-  eager-true = not-refused r o s m taken _ (judges-eager r o s m loads room true-memo)
+  eager-true = not-refused r q taken _ (judges-eager r q loads room true-memo)
 
-  pub lazy-true : Judged r m o s (lazy r m o s)
+  pub lazy-true : Judged r q (lazy r q)
   unfolding lazy
-  lazy-true = not-refused r o s m taken _ (judges-lazy r o s m loads room true-memo)
+  lazy-true = not-refused r q taken _ (judges-lazy r q loads room true-memo)

@@ -9,6 +9,7 @@ use Rattle.policy.specs.declared.Memo.{Memo}
 use Rattle.policy.specs.Table.{withMemo}
 use Rattle.formula.specs.Formula.{holds}
 use Rattle.justification.specs.Justification.{least}
+use Rattle.justification.specs.declared.Question.{Question}
 use Rattle.justification.specs.Predicates.{isEnabled}
 use Rattle.justification.specs.Walk.{known, value}
 use Rattle.justification.specs.WalkLaws.{Roomy}
@@ -28,9 +29,9 @@ setOf none = 0
 setOf (some c) = c
 
 -- the answer is the least set of the principals enabled in the record's own graph; the record stays but for the memo, which tells the truth
-pub record Judged (r : Record) (m o s : ℕ) (a : Answer) : Type 0 where
-  pub number : a .number ≡ numberOf (least r m (isEnabled r o s))
-  pub set : a .set ≡ setOf (least r m (isEnabled r o s))
+pub record Judged (r : Record) (q : Question) (a : Answer) : Type 0 where
+  pub number : a .number ≡ numberOf (least r (q .method) (isEnabled r q))
+  pub set : a .set ≡ setOf (least r (q .method) (isEnabled r q))
   pub memo : Memo
   pub left : a .rules ≡ withMemo r memo
   pub roomy : Roomy memo

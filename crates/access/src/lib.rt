@@ -19,6 +19,7 @@ ghost use Rattle.justification.specs.WalkLaws.{Roomy};
 ghost use Rattle.access.specs.Access as access;
 ghost use Rattle.access.specs.Parts.{trueAt, weighedOf};
 use formula::Setting;
+use justification::Question;
 use policy::Memo;
 use policy::Record;
 use search::Found;
@@ -41,14 +42,14 @@ pub struct Tried {
 // ---- the memo
 
 // The memo for a question: if its pair differs, it is first emptied and takes the new pair.
-fn memo_for(memo: Memo, object: u8, requestor: u8) -> Memo
-    ensures { λ r. ⌜ (r ≡ access.memoFor memo object requestor) × Roomy r ⌝ }
+fn memo_for(memo: Memo, question: Question) -> Memo
+    ensures { λ r. ⌜ (r ≡ access.memoFor memo question) × Roomy r ⌝ }
 {
-    if memo.object != object {
-        return policy::emptied(object, requestor);
+    if memo.object != question.object {
+        return policy::emptied(question.object, question.requestor);
     }
-    if memo.requestor != requestor {
-        return policy::emptied(object, requestor);
+    if memo.requestor != question.requestor {
+        return policy::emptied(question.object, question.requestor);
     }
     memo
 }
@@ -178,27 +179,27 @@ fn valued(rules: Record, memo: Memo) -> u32
 }
 
 // The eager question.
-pub fn ask_eager(rules: Record, method: u8, object: u8, requestor: u8) -> Answer
-    ensures { λ r. ⌜ r ≡ access.eager rules method object requestor ⌝ }
+pub fn ask_eager(rules: Record, question: Question) -> Answer
+    ensures { λ r. ⌜ r ≡ access.eager rules question ⌝ }
 {
     let loads = policy::loadable::loadable(rules);
-    ask_eager_if(rules, loads, method, object, requestor)
+    ask_eager_if(rules, loads, question)
 }
 
 // The same, where it is known whether some bundle loads to the record.
-pub fn ask_eager_if(rules: Record, loads: bool, method: u8, object: u8, requestor: u8) -> Answer
+pub fn ask_eager_if(rules: Record, loads: bool, question: Question) -> Answer
     requires { ⌜ loads ≡ validity.loadable rules ⌝ }
-    ensures { λ r. ⌜ r ≡ access.eager rules method object requestor ⌝ }
+    ensures { λ r. ⌜ r ≡ access.eager rules question ⌝ }
 {
-    let number = justification::question_refusal(rules, loads, method, object, requestor);
+    let number = justification::question_refusal(rules, loads, question);
     if number != 0 {
         return refused(number, rules);
     }
-    let before = memo_for(rules.memo, object, requestor);
-    let q = formula::setting_of(rules, object, requestor);
+    let before = memo_for(rules.memo, question);
+    let q = formula::setting_of(rules, question.object, question.requestor);
     let after = evaluated_all(rules, before, q);
     let enabled = valued(rules, after);
-    match justification::least(rules, place(method), enabled) {
+    match justification::least(rules, place(question.method), enabled) {
         Found::Set(set) => granted(rules, before, after, set),
         Found::Nothing => denied(rules, before, after),
     }
@@ -263,26 +264,26 @@ fn weigh(rules: Record, memo: Memo, q: Setting, c: u32) -> Tried
 }
 
 // The lazy question.
-pub fn ask_lazy(rules: Record, method: u8, object: u8, requestor: u8) -> Answer
-    ensures { λ r. ⌜ r ≡ access.lazy rules method object requestor ⌝ }
+pub fn ask_lazy(rules: Record, question: Question) -> Answer
+    ensures { λ r. ⌜ r ≡ access.lazy rules question ⌝ }
 {
     let loads = policy::loadable::loadable(rules);
-    ask_lazy_if(rules, loads, method, object, requestor)
+    ask_lazy_if(rules, loads, question)
 }
 
 // The same, where it is known whether some bundle loads to the record: at most one search more than there are principals,
 // each among those not known false.
-pub fn ask_lazy_if(rules: Record, loads: bool, method: u8, object: u8, requestor: u8) -> Answer
+pub fn ask_lazy_if(rules: Record, loads: bool, question: Question) -> Answer
     requires { ⌜ loads ≡ validity.loadable rules ⌝ }
-    ensures { λ r. ⌜ r ≡ access.lazy rules method object requestor ⌝ }
+    ensures { λ r. ⌜ r ≡ access.lazy rules question ⌝ }
 {
-    let number = justification::question_refusal(rules, loads, method, object, requestor);
+    let number = justification::question_refusal(rules, loads, question);
     if number != 0 {
         return refused(number, rules);
     }
-    let before = memo_for(rules.memo, object, requestor);
-    let q = formula::setting_of(rules, object, requestor);
-    let masks = justification::masks_of(rules, place(method), 0);
+    let before = memo_for(rules.memo, question);
+    let q = formula::setting_of(rules, question.object, question.requestor);
+    let masks = justification::masks_of(rules, place(question.method), 0);
     let count = rules.principal_count;
     let mut memo = before;
     let mut rounds: usize = 0;

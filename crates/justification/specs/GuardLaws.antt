@@ -14,6 +14,7 @@ use Rattle.closure.specs.Closure.{pairsOf, reaches}
 use Rattle.policy.specs.declared.Record.{Record}
 use Rattle.search.specs.Steps.{MetBy, Gathers}
 use Rattle.justification.specs.Justification.{demarcationHas, have, listed, meets}
+use Rattle.justification.specs.declared.Question.{Question}
 use Rattle.justification.specs.Predicates.{isEnabled, enabled}
 use Rattle.justification.specs.Parts.{Marks, Those}
 
@@ -51,14 +52,14 @@ module _ (r : Record) (m : ℕ) (bounded : at (r .«method_privileges») m < 2 ^
   guard-met = by-form (eqb (at (r .«method_forms») m) 0)
 
 -- what all enabled principals give together, of the privileges w: those of them that give none of w may be left out
-pub enabled-gather : (r : Record) (o s a e g w : ℕ) (grants : List ℕ)
+pub enabled-gather : (r : Record) (q : Question) (a e g w : ℕ) (grants : List ℕ)
     → Those (r .«principal_count») (λ p. MetBy false w (at grants p)) a
-    → Those (r .«principal_count») (λ p. (In p a) × (isEnabled r o s p ≡ true)) e
+    → Those (r .«principal_count») (λ p. (In p a) × (isEnabled r q p ≡ true)) e
     → ((p k : ℕ) → p < r .«principal_count» → (In k (at grants p) ↔ (demarcationHas r (at (r .«principal_demarcations») p) k ≡ true)))
-    → Gathers (r .«principal_count») e grants g → (k : ℕ) → In k w → (In k g ↔ (have r (enabled r o s) k ≡ true))
+    → Gathers (r .«principal_count») e grants g → (k : ℕ) → In k w → (In k g ↔ (have r (enabled r q) k ≡ true))
 unfolding have
-enabled-gather r o s a e g w grants givers those gives gathers k asked =
-    let all = some-of (λ p. demarcationHas r (at (r .«principal_demarcations») p) k) (isEnabled r o s) (r .«principal_count») in (
+enabled-gather r q a e g w grants givers those gives gathers k asked =
+    let all = some-of (λ p. demarcationHas r (at (r .«principal_demarcations») p) k) (isEnabled r q) (r .«principal_count») in (
       λ i. let (p, l, j, x) = gathers .only k i in all .1 (p, l, those .only p j .1 .1, gives p k l .0 x),
       λ t.
           let (p, l, x, y) = all .0 t in
@@ -72,13 +73,13 @@ unfolding have
 one-gives r p g h k = (λ i. or-left _ false (h k .0 i), λ t. h k .1 (or-left-only (demarcationHas r (at (r .«principal_demarcations») p) k) false refl t))
 
 -- one enabled principal alone meets the guard: of those that do, one is enabled
-pub one-meets-is : (r : Record) (m o s a e : ℕ) (grants : List ℕ) → at (r .«method_privileges») m < 2 ^ 64
+pub one-meets-is : (r : Record) (m : ℕ) (q : Question) (a e : ℕ) (grants : List ℕ) → at (r .«method_privileges») m < 2 ^ 64
     → Those (r .«principal_count») (λ p. MetBy (not (eqb (at (r .«method_forms») m) 0)) (at (r .«method_privileges») m) (at grants p)) a
-    → Those (r .«principal_count») (λ p. (In p a) × (isEnabled r o s p ≡ true)) e
+    → Those (r .«principal_count») (λ p. (In p a) × (isEnabled r q p ≡ true)) e
     → ((p k : ℕ) → p < r .«principal_count» → (In k (at grants p) ↔ (demarcationHas r (at (r .«principal_demarcations») p) k ≡ true)))
-    → (any (λ p. meets r m (p ∷ [])) (enabled r o s) ≡ true ↔ ((p : ℕ) × In p e))
-one-meets-is r m o s a e grants bounded able those gives =
-    let all = some-of (λ p. meets r m (p ∷ [])) (isEnabled r o s) (r .«principal_count») in (
+    → (any (λ p. meets r m (p ∷ [])) (enabled r q) ≡ true ↔ ((p : ℕ) × In p e))
+one-meets-is r m q a e grants bounded able those gives =
+    let all = some-of (λ p. meets r m (p ∷ [])) (isEnabled r q) (r .«principal_count») in (
       λ t. let (p, l, x, y) = all .0 t in (p, those .all p l (able .all p l (alone p l .0 y), x)),
       λ (p, i). let (l, c) = those .only p i in all .1 (p, l, c .1, alone p l .1 (able .only p (c .0) .1)),
     )

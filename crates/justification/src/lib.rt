@@ -27,6 +27,13 @@ use policy::Record;
 use search::Found;
 use search::Masks;
 
+// A question names method, object, requestor.
+pub struct Question {
+    pub method: u8,
+    pub object: u8,
+    pub requestor: u8,
+}
+
 // What liberal and strict answer: document 01's number, and yes or no (for a refusal, no).
 pub struct Verdict {
     pub number: u8,
@@ -221,20 +228,20 @@ fn is_user(rules: Record, s: u8) -> bool
 }
 
 // 19, 14, 15 or 16; 0 where the question may be put. It is known whether some bundle loads to the record.
-pub fn question_refusal(rules: Record, loads: bool, method: u8, object: u8, requestor: u8) -> u8
+pub fn question_refusal(rules: Record, loads: bool, question: Question) -> u8
     requires { ⌜ loads ≡ validity.loadable rules ⌝ }
-    ensures { λ r. ⌜ r ≡ questionRefusal rules method object requestor ⌝ }
+    ensures { λ r. ⌜ r ≡ questionRefusal rules question ⌝ }
 {
     if !loads {
         return common::NOT_LOADABLE;
     }
-    if rules.method_count <= (method as usize) {
+    if rules.method_count <= (question.method as usize) {
         return common::NO_METHOD;
     }
-    if rules.objects <= object {
+    if rules.objects <= question.object {
         return common::NO_OBJECT;
     }
-    if !is_user(rules, requestor) {
+    if !is_user(rules, question.requestor) {
         return common::NOT_USER;
     }
     common::ACCEPTED
@@ -274,40 +281,40 @@ fn true_ones(q: Setting, n: usize, formulas: [u8; 20], among: u32) -> u32
 }
 
 // The enabled principals of those in `among`.
-pub fn enabled_of(rules: Record, object: u8, requestor: u8, among: u32) -> u32
+pub fn enabled_of(rules: Record, question: Question, among: u32) -> u32
     requires { ⌜ ((j : Kind) → tableLoads rules j ≡ true) ⌝ }
-    ensures { λ r. ⌜ Those (rules .«principal_count») (λ p. (In p among) × (isEnabled rules object requestor p ≡ true)) r ⌝ }
+    ensures { λ r. ⌜ Those (rules .«principal_count») (λ p. (In p among) × (isEnabled rules question p ≡ true)) r ⌝ }
 {
-    let q = formula::setting_of(rules, object, requestor);
+    let q = formula::setting_of(rules, question.object, question.requestor);
     let formulas = rules.principal_formulas;
     true_ones(q, rules.principal_count, formulas, among)
 }
 
 // Whether all enabled principals together meet the guard, without constraints.
-pub fn liberal(rules: Record, method: u8, object: u8, requestor: u8) -> Verdict
-    ensures { λ r. ⌜ r ≡ predicates.liberal rules method object requestor ⌝ }
+pub fn liberal(rules: Record, question: Question) -> Verdict
+    ensures { λ r. ⌜ r ≡ predicates.liberal rules question ⌝ }
 {
     let loads = policy::loadable::loadable(rules);
-    liberal_if(rules, loads, method, object, requestor)
+    liberal_if(rules, loads, question)
 }
 
 // The same, where it is known whether some bundle loads to the record. Only the formulas of principals that give a wanted privilege are evaluated.
-pub fn liberal_if(rules: Record, loads: bool, method: u8, object: u8, requestor: u8) -> Verdict
+pub fn liberal_if(rules: Record, loads: bool, question: Question) -> Verdict
     requires { ⌜ loads ≡ validity.loadable rules ⌝ }
-    ensures { λ r. ⌜ r ≡ predicates.liberal rules method object requestor ⌝ }
+    ensures { λ r. ⌜ r ≡ predicates.liberal rules question ⌝ }
 {
-    let number = question_refusal(rules, loads, method, object, requestor);
+    let number = question_refusal(rules, loads, question);
     if number != 0 {
         return Verdict {
             number: number,
             yes: false,
         };
     }
-    let m = place(method);
+    let m = place(question.method);
     let wanted = listed(rules.method_privileges[m]);
     let grants = grants_of(rules);
     let givers = meeting(rules.principal_count, grants, false, wanted);
-    let enabled = enabled_of(rules, object, requestor, givers);
+    let enabled = enabled_of(rules, question, givers);
     let given = search::gathered(rules.principal_count, enabled, grants);
     let yes = search::meets(rules.method_forms[m] != 0, wanted, given);
     Verdict {
@@ -317,26 +324,26 @@ pub fn liberal_if(rules: Record, loads: bool, method: u8, object: u8, requestor:
 }
 
 // Whether one enabled principal alone meets the guard, without constraints.
-pub fn strict(rules: Record, method: u8, object: u8, requestor: u8) -> Verdict
-    ensures { λ r. ⌜ r ≡ predicates.strict rules method object requestor ⌝ }
+pub fn strict(rules: Record, question: Question) -> Verdict
+    ensures { λ r. ⌜ r ≡ predicates.strict rules question ⌝ }
 {
     let loads = policy::loadable::loadable(rules);
-    strict_if(rules, loads, method, object, requestor)
+    strict_if(rules, loads, question)
 }
 
 // The same, where it is known whether some bundle loads to the record. Only the formulas of principals that meet the guard are evaluated.
-pub fn strict_if(rules: Record, loads: bool, method: u8, object: u8, requestor: u8) -> Verdict
+pub fn strict_if(rules: Record, loads: bool, question: Question) -> Verdict
     requires { ⌜ loads ≡ validity.loadable rules ⌝ }
-    ensures { λ r. ⌜ r ≡ predicates.strict rules method object requestor ⌝ }
+    ensures { λ r. ⌜ r ≡ predicates.strict rules question ⌝ }
 {
-    let number = question_refusal(rules, loads, method, object, requestor);
+    let number = question_refusal(rules, loads, question);
     if number != 0 {
         return Verdict {
             number: number,
             yes: false,
         };
     }
-    let m = place(method);
+    let m = place(question.method);
     let wanted = listed(rules.method_privileges[m]);
     let grants = grants_of(rules);
     let able = meeting(
@@ -345,7 +352,7 @@ pub fn strict_if(rules: Record, loads: bool, method: u8, object: u8, requestor: 
         rules.method_forms[m] != 0,
         wanted,
     );
-    let found = enabled_of(rules, object, requestor, able);
+    let found = enabled_of(rules, question, able);
     Verdict {
         number: 0,
         yes: found != 0,

@@ -27,7 +27,7 @@ refused-requires : tie.Need-refused-requires
 refused-requires c κs = search needs
 
 returns : tie.Need-returns
-returns c = c .refused .ensures ∙ eager-refused _ _ _ _ (c .before .before .question-refusal .ensures) (c .before .if1 .taken)
+returns c = c .refused .ensures ∙ eager-refused _ _ (c .before .before .question-refusal .ensures) (c .before .if1 .taken)
 
 memo-for-requires : tie.Need-memo-for-requires
 memo-for-requires c κs = search needs
@@ -37,11 +37,11 @@ module _ (h : tie.After-memo-for) where
   abbrev start : tie.Start
   start = h .before .before .before
 
-  no-refusal : 0 ≡ questionRefusal (start .args .rules) (start .args .method) (start .args .object) (start .args .requestor)
+  no-refusal : 0 ≡ questionRefusal (start .args .rules) (start .args .question)
   no-refusal = sym (h .before .if1 .left) ∙ h .before .before .question-refusal .ensures
 
-  may : Asked (start .args .rules) (start .args .method) (start .args .object) (start .args .requestor)
-  may = asked _ _ _ _ (sym no-refusal)
+  may : Asked (start .args .rules) (start .args .question)
+  may = asked _ _ (sym no-refusal)
 
   tables : (j : Kind) → tableLoads (start .args .rules) j ≡ true
   tables = loadable-table _ (may .loads)
@@ -76,13 +76,13 @@ denied-requires c κs = search needs
 -- what the least set of those with the value true comes to
 whole : (l : tie.After-least) → let e = l .before .before .before in
     let h = e .before .before in
-    answered (start h .args .rules) (h .memo-for .result) (outcome (e .evaluated-all .result) (found (l .least .result))) ≡ eager (start h .args .rules) (start h .args .method) (start h .args .object) (start h .args .requestor)
+    answered (start h .args .rules) (h .memo-for .result) (outcome (e .evaluated-all .result) (found (l .least .result))) ≡ eager (start h .args .rules) (start h .args .question)
 whole l =
     let v = l .before .before in
     let e = v .before in
     let q = e .before in
     let h = q .before in
-    eager-answer (start h .args .rules) (start h .args .method) (start h .args .object) (start h .args .requestor) (tables h) (no-refusal h) (q .setting-of .result) (q .setting-of .ensures) (h .memo-for .ensures .0)
+    eager-answer (start h .args .rules) (start h .args .question) (tables h) (no-refusal h) (q .setting-of .result) (q .setting-of .ensures) (h .memo-for .ensures .0)
     (e .evaluated-all .ensures) (v .valued .ensures)
     (l .least .ensures ∙ ap (λ (k : ℕ). least (start h .args .rules) k (λ p. member p (v .valued .result))) (l .before .place .ensures))
 

@@ -21,10 +21,10 @@ use Rattle.access.proofs.ask_lazy_if.Statement.{statement}
 use Rattle.access.proofs.ask_lazy_if.Tie as tie
 
 abbrev Inv-loop : tie.InvT-loop
-Inv-loop rules loads method object requestor number before q masks count memo₀ rounds₀ memo rounds = Round (trueAt q) rules method before rounds memo × (rounds ≤ count + 1)
+Inv-loop rules loads question number before q masks count memo₀ rounds₀ memo rounds = Round (trueAt q) rules (question .method) before rounds memo × (rounds ≤ count + 1)
 
 abbrev μ-loop : tie.MeasureT-loop
-μ-loop rules loads method object requestor number before q masks count memo₀ rounds₀ memo rounds = count + 1 - rounds
+μ-loop rules loads question number before q masks count memo₀ rounds₀ memo rounds = count + 1 - rounds
 
 question-refusal-requires : tie.Need-question-refusal-requires Inv-loop μ-loop
 question-refusal-requires c κs = c .pre
@@ -33,7 +33,7 @@ refused-requires : tie.Need-refused-requires Inv-loop μ-loop
 refused-requires c κs = search needs
 
 returns : tie.Need-returns Inv-loop μ-loop
-returns c = c .refused .ensures ∙ lazy-refused _ _ _ _ (c .before .before .question-refusal .ensures) (c .before .if1 .taken)
+returns c = c .refused .ensures ∙ lazy-refused _ _ (c .before .before .question-refusal .ensures) (c .before .if1 .taken)
 
 memo-for-requires : tie.Need-memo-for-requires Inv-loop μ-loop
 memo-for-requires c κs = search needs
@@ -43,11 +43,11 @@ module _ (h : tie.After-memo-for Inv-loop μ-loop) where
   abbrev start : tie.Start Inv-loop μ-loop
   start = h .before .before .before
 
-  no-refusal : 0 ≡ questionRefusal (start .args .rules) (start .args .method) (start .args .object) (start .args .requestor)
+  no-refusal : 0 ≡ questionRefusal (start .args .rules) (start .args .question)
   no-refusal = sym (h .before .if1 .left) ∙ h .before .before .question-refusal .ensures
 
-  may : Asked (start .args .rules) (start .args .method) (start .args .object) (start .args .requestor)
-  may = asked _ _ _ _ (sym no-refusal)
+  may : Asked (start .args .rules) (start .args .question)
+  may = asked _ _ (sym no-refusal)
 
   tables : (j : Kind) → tableLoads (start .args .rules) j ≡ true
   tables = loadable-table _ (may .loads)
@@ -73,10 +73,10 @@ module _ (a : tie.At-loop Inv-loop μ-loop) where
   asked-of = a .before .before .before .before
 
   whole : answered (start asked-of .args .rules) (asked-of .memo-for .result)
-      (searching (start asked-of .args .rules .«principal_count» + 1) (trueAt (set-up .setting-of .result)) (start asked-of .args .rules) (start asked-of .args .method) (asked-of .memo-for .result))
-      ≡ lazy (start asked-of .args .rules) (start asked-of .args .method) (start asked-of .args .object) (start asked-of .args .requestor)
+      (searching (start asked-of .args .rules .«principal_count» + 1) (trueAt (set-up .setting-of .result)) (start asked-of .args .rules) (start asked-of .args .question .method) (asked-of .memo-for .result))
+      ≡ lazy (start asked-of .args .rules) (start asked-of .args .question)
   whole =
-      lazy-answer (start asked-of .args .rules) (start asked-of .args .method) (start asked-of .args .object) (start asked-of .args .requestor) (tables asked-of) (no-refusal asked-of)
+      lazy-answer (start asked-of .args .rules) (start asked-of .args .question) (tables asked-of) (no-refusal asked-of)
       (set-up .setting-of .result) (set-up .setting-of .ensures) (asked-of .memo-for .ensures .0) (asked-of .memo-for .ensures .1)
 
 -- in a round: the least candidate among those not known false
@@ -84,7 +84,7 @@ module _ (l : tie.After-least-among Inv-loop μ-loop) where
   abbrev at-loop : tie.At-loop Inv-loop μ-loop
   at-loop = l .before .before .before
 
-  next-is : found (l .least-among .result) ≡ least (start (asked-of at-loop) .args .rules) (start (asked-of at-loop) .args .method) (λ p. member p (l .before .not-known-false .result))
+  next-is : found (l .least-among .result) ≡ least (start (asked-of at-loop) .args .rules) (start (asked-of at-loop) .args .question .method) (λ p. member p (l .before .not-known-false .result))
   next-is =
       l .least-among .ensures (start (asked-of at-loop) .args .rules) (at-loop .before .before .place .result) 0 (at-loop .before .masks-of .ensures)
       ∙ ap (λ (k : ℕ). least (start (asked-of at-loop) .args .rules) k (λ p. member p (l .before .not-known-false .result))) (at-loop .before .before .place .ensures)

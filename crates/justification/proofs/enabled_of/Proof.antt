@@ -5,6 +5,7 @@ use Rattle.common.specs.Lists.{at}
 use Rattle.policy.specs.declared.Record.{Record}
 use Rattle.formula.specs.Formula.{holds}
 use Rattle.formula.specs.Evaluation.{trueIn}
+use Rattle.justification.specs.declared.Question.{Question}
 use Rattle.justification.specs.Predicates.{isEnabled}
 use native.Mathlib.Omega.{arith}
 use Rattle.policy.specs.Table.{user, edge, formula, principal}
@@ -14,9 +15,10 @@ use Rattle.justification.specs.NamedLaws.{principal-named}
 use Rattle.justification.proofs.enabled_of.Statement.{statement}
 use Rattle.justification.proofs.enabled_of.Tie as tie
 
-is-enabled : (r : Record) (p o s : ℕ) → holds r (at (r .«principal_formulas») p) o o s ≡ isEnabled r o s p
+is-enabled : (r : Record) (q : Question) (p : ℕ)
+    → holds r (at (r .«principal_formulas») p) (q .object) (q .object) (q .requestor) ≡ isEnabled r q p
 unfolding isEnabled
-is-enabled r p o s = refl
+is-enabled r q p = refl
 
 setting-of-requires : tie.Need-setting-of-requires
 setting-of-requires c κs = table-few _ user (c .pre user)
@@ -31,8 +33,8 @@ returns c =
     let made = c .before .before .«setting-of» .ensures in
     let q = c .before .before .«setting-of» .result in
     let found = c .«true-ones» .ensures in
-    let same : (p : ℕ) → p < r .«principal_count» → trueIn q 64 (at (r .«principal_formulas») p) (q .object) ≡ isEnabled r (s .args .object) (s .args .requestor) p = λ p l. setting-holds r (s .args .object) (s .args .requestor) q made (at (r .«principal_formulas») p) (q .object) (principal-named r (s .pre) p l .0) (table-few r formula (s .pre formula))
-    ∙ ap (λ (v : ℕ). holds r (at (r .«principal_formulas») p) v (s .args .object) (s .args .requestor)) (made .object) ∙ is-enabled r p (s .args .object) (s .args .requestor) in
+    let same : (p : ℕ) → p < r .«principal_count» → trueIn q 64 (at (r .«principal_formulas») p) (q .object) ≡ isEnabled r (s .args .question) p = λ p l. setting-holds r (s .args .question .object) (s .args .question .requestor) q made (at (r .«principal_formulas») p) (q .object) (principal-named r (s .pre) p l .0) (table-few r formula (s .pre formula))
+    ∙ ap (λ (v : ℕ). holds r (at (r .«principal_formulas») p) v (s .args .question .object) (s .args .question .requestor)) (made .object) ∙ is-enabled r (s .args .question) p in
     record {
       only = λ p i. let (l, x) = found .only p i in (l, (x .0, sym (same p l) ∙ x .1));
       all = λ p l x. found .all p l (x .0, same p l ∙ x .1);

@@ -4,42 +4,53 @@ use mathlib.Core.Bool.{true}
 use Rattle.policy.specs.Loadable.{loadable}
 use borrow.Author.Tests.{not-true, not-false}
 use Rattle.policy.specs.Table.{user}
+use borrow.Author.Needs.{needs}
 use Rattle.policy.specs.LoadableLaws.{table-few, loadable-table}
 use Rattle.justification.proofs.Asking.{not-loadable, no-method, no-object, not-user, may-ask}
 use Rattle.justification.proofs.question_refusal.Statement.{statement}
 use Rattle.justification.proofs.question_refusal.Tie as tie
 
--- the record is loadable past the first test, the method is there past the second, the object past the third
+-- past the second test the first was passed, and past the third the second
+abbrev first-passed : tie.Else2 → tie.Else1
+first-passed e = e .before .before .before
+
+abbrev second-passed : tie.Else3 → tie.Else2
+second-passed e = e .before .before .before
+
+-- past the first test the record is loadable
 loads : (e : tie.Else1) → loadable (e .before .args .rules) ≡ true
 loads e = sym (e .before .pre) ∙ not-false _ (e .if1 .left)
 
 returns : tie.Need-returns
-returns c = not-loadable _ _ _ _ (sym (c .before .pre) ∙ not-true _ (c .if1 .taken))
+returns c = not-loadable _ _ (sym (c .before .pre) ∙ not-true _ (c .if1 .taken))
+
+cast-if2 : tie.Need-cast-if2
+cast-if2 c = search needs
 
 returns-2 : tie.Need-returns-2
-returns-2 c = no-method _ _ _ _ (loads (c .before .before)) (c .if2 .taken)
+returns-2 c = no-method _ _ (loads (c .before .before .before)) (c .if2 .taken)
 
 returns-3 : tie.Need-returns-3
 returns-3 c =
-    let e2 = c .before .before in
-    no-object _ _ _ _ (loads (e2 .before .before)) (e2 .if2 .left) (c .if3 .taken)
+    let e2 = c .before .before .before in
+    no-object _ _ (loads (first-passed e2)) (e2 .if2 .left) (c .if3 .taken)
 
 is-user-requires : tie.Need-is-user-requires
-is-user-requires c κs = table-few _ user (loadable-table _ (loads (c .before .before .before .before)) user)
+is-user-requires c κs = table-few _ user (loadable-table _ (loads (first-passed (second-passed c))) user)
 
 returns-4 : tie.Need-returns-4
 returns-4 c =
     let e3 = c .before .before in
-    let e2 = e3 .before .before in
-    not-user _ _ _ _ (loads (e2 .before .before)) (e2 .if2 .left) (e3 .if3 .left) (sym (c .before .is-user .ensures) ∙ not-true _ (c .if4 .taken))
+    let e2 = second-passed e3 in
+    not-user _ _ (loads (first-passed e2)) (e2 .if2 .left) (e3 .if3 .left) (sym (c .before .is-user .ensures) ∙ not-true _ (c .if4 .taken))
 
 returns-5 : tie.Need-returns-5
 returns-5 c =
     let e3 = c .before .before in
-    let e2 = e3 .before .before in
-    may-ask _ _ _ _ (loads (e2 .before .before)) (e2 .if2 .left) (e3 .if3 .left) (sym (c .before .is-user .ensures) ∙ not-false _ (c .if4 .left))
+    let e2 = second-passed e3 in
+    may-ask _ _ (loads (first-passed e2)) (e2 .if2 .left) (e3 .if3 .left) (sym (c .before .is-user .ensures) ∙ not-false _ (c .if4 .left))
 
 pub question-refusal-spec : {M : Type 1} → statement M
 question-refusal-spec =
     tie.close
-    (tie.spec returns returns-2 returns-3 is-user-requires returns-4 returns-5)
+    (tie.spec returns cast-if2 returns-2 returns-3 is-user-requires returns-4 returns-5)

@@ -16,7 +16,7 @@ question-refusal-requires : tie.Need-question-refusal-requires
 question-refusal-requires c κs = c .pre
 
 returns : tie.Need-returns
-returns c = strict-refused _ _ _ _ (c .before .«question-refusal» .ensures) (c .if1 .taken)
+returns c = strict-refused _ _ (c .before .«question-refusal» .ensures) (c .if1 .taken)
 
 place-requires : tie.Need-place-requires
 place-requires c κs = search needs
@@ -26,8 +26,8 @@ module _ (h : tie.After-place) where
   abbrev start : tie.Start
   start = h .before .before .before
 
-  may : Asked (start .args .t1) (start .args .method) (start .args .object) (start .args .requestor)
-  may = asked _ _ _ _ (sym (h .before .before .«question-refusal» .ensures) ∙ h .before .if1 .left)
+  may : Asked (start .args .t1) (start .args .question)
+  may = asked _ _ (sym (h .before .before .«question-refusal» .ensures) ∙ h .before .if1 .left)
 
   tables : (j : Kind) → tableLoads (start .args .t1) j ≡ true
   tables = loadable-table _ (may .loads)
@@ -64,8 +64,8 @@ returns-2 c =
     let h = l .before .before in
     let s = start h in
     let r = s .args .t1 in
-    strict-is r _ _ _ (sym (h .before .if1 .left) ∙ h .before .before .«question-refusal» .ensures) _
-    (strict-yes r (s .args .object) (s .args .requestor) (m .meeting .result) (c .«enabled-of» .result) (gr .«grants-of» .result) (gr .«grants-of» .ensures) (c .«enabled-of» .ensures)
+    strict-is r _ (sym (h .before .if1 .left) ∙ h .before .before .«question-refusal» .ensures) _
+    (strict-yes r (s .args .question) (m .meeting .result) (c .«enabled-of» .result) (gr .«grants-of» .result) (gr .«grants-of» .ensures) (c .«enabled-of» .ensures)
     (h .place .ensures) (l .listed .ensures .0) (l .listed .ensures .1) (m .meeting .ensures))
 
 pub strict-if-spec : {M : Type 1} → statement M
