@@ -14,6 +14,7 @@ use Rattle.policy.specs.LoadableLaws.{loadable-table}
 use Rattle.policy.specs.ColumnLaws.{loadable-memo}
 use Rattle.formula.specs.Formula.{isUser, holdsOn, holds}
 use Rattle.formula.specs.FormulaLaws.{same-edges}
+use Rattle.justification.specs.declared.Question.{Question}
 use Rattle.justification.specs.Justification.{demarcationHas, have, meets, consistent, candidates, least}
 use Rattle.justification.specs.Predicates.{questionRefusal, isEnabled}
 use Rattle.justification.specs.Walk.{formulaOf}
@@ -28,33 +29,37 @@ use Rattle.history.specs.SizedLaws.{sized-memo}
 -- ---- what stays as the bundle has it
 
 module _ (r b : Record) (rest : changed r [] (emptied 0 0) ≡ changed b [] (emptied 0 0)) where
-  same-refusal : (m o s : ℕ) → askRefusal r m o s ≡ askRefusal b m o s
+  same-refusal : (q : Question) → askRefusal r q ≡ askRefusal b q
   unfolding changed
-  same-refusal m o s = ap (λ (q : Record). askRefusal q m o s) rest
+  same-refusal q = ap (λ (x : Record). askRefusal x q) rest
 
   pub same-least : (m : ℕ) (passes : ℕ → Bool) → least r m passes ≡ least b m passes
   unfolding changed least candidates consistent meets have demarcationHas
-  same-least m passes = ap (λ (q : Record). least q m passes) rest
+  same-least m passes = ap (λ (x : Record). least x m passes) rest
 
-  same-holds : (book : List (List ℕ)) (o s p : ℕ) → holdsOn r book (formulaOf r p) o o s ≡ holdsOn b book (formulaOf b p) o o s
+  same-holds : (book : List (List ℕ)) (o s p : ℕ)
+      → holdsOn r book (formulaOf r p) o o s ≡ holdsOn b book (formulaOf b p) o o s
   unfolding changed holdsOn
-  same-holds book o s p = ap (λ (q : Record). holdsOn q book (formulaOf q p) o o s) rest
+  same-holds book o s p = ap (λ (x : Record). holdsOn x book (formulaOf x p) o o s) rest
 
 module _ (b : Record) (book : Book) (r : Record) (h : Follows b book r) where
   -- ---- the same refusal, the same enabled principals, the same least set
 
-  pub refusal-is : (m o s : ℕ) → questionRefusal r m o s ≡ askRefusal b m o s
+  pub refusal-is : (q : Question) → questionRefusal r q ≡ askRefusal b q
   unfolding questionRefusal
-  refusal-is m o s =
-      (λ i. first (cause notLoadable (not (h .loads i)) ∷ cause noMethod (leb (r .«method_count») m) ∷ cause noObject (leb (r .objects) o) ∷ cause notUser (not (isUser r s)) ∷ []))
-      ∙ same-refusal r b (h .rest) m o s
+  refusal-is q =
+      (λ i. first (cause notLoadable (not (h .loads i)) ∷ cause noMethod (leb (r .«method_count») (q .method)) ∷ cause noObject (leb (r .objects) (q .object)) ∷ cause notUser (not (isUser r (q .requestor))) ∷ []))
+      ∙ same-refusal r b (h .rest) q
 
-  pub enabled-is : (o s p : ℕ) → isEnabled r o s p ≡ enabledIn b book o s p
+  pub enabled-is : (q : Question) (p : ℕ) → isEnabled r q p ≡ enabledIn b book q p
   unfolding isEnabled holds
-  enabled-is o s p = same-edges r (rows edge r) book (formulaOf r p) o o s (h .edges) ∙ same-holds r b (h .rest) book o s p
+  enabled-is q p =
+      same-edges r (rows edge r) book (formulaOf r p) (q .object) (q .object) (q .requestor) (h .edges)
+      ∙ same-holds r b (h .rest) book (q .object) (q .requestor) p
 
-  pub least-is : (m o s : ℕ) → least r m (isEnabled r o s) ≡ least b m (enabledIn b book o s)
-  least-is m o s = (λ i. least r m (λ p. enabled-is o s p i)) ∙ same-least r b (h .rest) m (enabledIn b book o s)
+  pub least-is : (q : Question) → least r (q .method) (isEnabled r q) ≡ least b (q .method) (enabledIn b book q)
+  least-is q =
+      (λ i. least r (q .method) (λ p. enabled-is q p i)) ∙ same-least r b (h .rest) (q .method) (enabledIn b book q)
 
   -- ---- the answer
 
@@ -62,16 +67,16 @@ module _ (b : Record) (book : Book) (r : Record) (h : Follows b book r) where
   verdict-is none = refl
   verdict-is (some c) = refl
 
-  judged-is : (m o s : ℕ) (a : Answer) → Judged r m o s a → ofAnswer a ≡ verdict (least b m (enabledIn b book o s))
-  judged-is m o s a j =
+  judged-is : (q : Question) (a : Answer) → Judged r q a → ofAnswer a ≡ verdict (least b (q .method) (enabledIn b book q))
+  judged-is q a j =
       (λ i. record { number = j .number i; set = j .set i })
-      ∙ verdict-is (least r m (isEnabled r o s))
-      ∙ ap verdict (least-is m o s)
+      ∙ verdict-is (least r (q .method) (isEnabled r q))
+      ∙ ap verdict (least-is q)
 
   -- a record that differs in the memo alone, which tells the truth
-  left-follows : (m o s : ℕ) (a : Answer) → Judged r m o s a → Follows b book (a .rules)
+  left-follows : (q : Question) (a : Answer) → Judged r q a → Follows b book (a .rules)
   unfolding withMemo changed holds holdsOn
-  left-follows m o s a j =
+  left-follows q a j =
       subst (Follows b book) (sym (j .left))
       (record {
         loads = loadable-memo r (j .memo) (h .sized) (h .loads);
@@ -84,48 +89,48 @@ module _ (b : Record) (book : Book) (r : Record) (h : Follows b book r) where
         truthful = record { values = j .truthful .values };
       })
 
-  module _ (question : Record → ℕ → ℕ → ℕ → Answer) (m o s : ℕ)
-      (when : questionRefusal r m o s ≡ 0 → Judged r m o s (question r m o s))
-      (other : (n : ℕ) → n ≡ questionRefusal r m o s → (n ≡ 0 → ⊥) → question r m o s ≡ refused n r) where
-    pub asked-reply : ofAnswer (question r m o s) ≡ ask b book m o s
-    asked-reply = go (eqb (askRefusal b m o s) 0) refl
+  module _ (question : Record → Question → Answer) (q : Question)
+      (when : questionRefusal r q ≡ 0 → Judged r q (question r q))
+      (other : (n : ℕ) → n ≡ questionRefusal r q → (n ≡ 0 → ⊥) → question r q ≡ refused n r) where
+    pub asked-reply : ofAnswer (question r q) ≡ ask b book q
+    asked-reply = go (eqb (askRefusal b q) 0) refl
       where
-        go : (v : Bool) → eqb (askRefusal b m o s) 0 ≡ v → ofAnswer (question r m o s) ≡ cond v (verdict (least b m (enabledIn b book o s))) (plain (askRefusal b m o s))
-        go true e = judged-is m o s (question r m o s) (when (refusal-is m o s ∙ eqb-true (askRefusal b m o s) 0 e))
-        go false e = ap ofAnswer (other (askRefusal b m o s) (sym (refusal-is m o s)) (eqb-false (askRefusal b m o s) 0 e))
+        go : (v : Bool) → eqb (askRefusal b q) 0 ≡ v → ofAnswer (question r q) ≡ cond v (verdict (least b (q .method) (enabledIn b book q))) (plain (askRefusal b q))
+        go true e = judged-is q (question r q) (when (refusal-is q ∙ eqb-true (askRefusal b q) 0 e))
+        go false e = ap ofAnswer (other (askRefusal b q) (sym (refusal-is q)) (eqb-false (askRefusal b q) 0 e))
 
-    pub asked-follows : Follows b book (question r m o s .rules)
-    asked-follows = go (eqb (questionRefusal r m o s) 0) refl
+    pub asked-follows : Follows b book (question r q .rules)
+    asked-follows = go (eqb (questionRefusal r q) 0) refl
       where
-        go : (v : Bool) → eqb (questionRefusal r m o s) 0 ≡ v → Follows b book (question r m o s .rules)
-        go true e = left-follows m o s (question r m o s) (when (eqb-true (questionRefusal r m o s) 0 e))
-        go false e = subst (λ (a : Answer). Follows b book (a .rules)) (sym (other (questionRefusal r m o s) refl (eqb-false (questionRefusal r m o s) 0 e))) h
+        go : (v : Bool) → eqb (questionRefusal r q) 0 ≡ v → Follows b book (question r q .rules)
+        go true e = left-follows q (question r q) (when (eqb-true (questionRefusal r q) 0 e))
+        go false e = subst (λ (a : Answer). Follows b book (a .rules)) (sym (other (questionRefusal r q) refl (eqb-false (questionRefusal r q) 0 e))) h
 
   -- ---- eager and lazy
 
-  module _ (m o s : ℕ) where
-    pub eager-refused : (n : ℕ) → n ≡ questionRefusal r m o s → (n ≡ 0 → ⊥) → eager r m o s ≡ refused n r
+  module _ (q : Question) where
+    pub eager-refused : (n : ℕ) → n ≡ questionRefusal r q → (n ≡ 0 → ⊥) → eager r q ≡ refused n r
     unfolding eager
-    eager-refused n e z = rw (ne-eqb (questionRefusal r m o s) 0 (λ q. z (e ∙ q))) (ap (λ (k : ℕ). refused k r) (sym e))
+    eager-refused n e z = rw (ne-eqb (questionRefusal r q) 0 (λ i. z (e ∙ i))) (ap (λ (k : ℕ). refused k r) (sym e))
 
-    pub lazy-refused : (n : ℕ) → n ≡ questionRefusal r m o s → (n ≡ 0 → ⊥) → lazy r m o s ≡ refused n r
+    pub lazy-refused : (n : ℕ) → n ≡ questionRefusal r q → (n ≡ 0 → ⊥) → lazy r q ≡ refused n r
     unfolding lazy
-    lazy-refused n e z = rw (ne-eqb (questionRefusal r m o s) 0 (λ q. z (e ∙ q))) (ap (λ (k : ℕ). refused k r) (sym e))
+    lazy-refused n e z = rw (ne-eqb (questionRefusal r q) 0 (λ i. z (e ∙ i))) (ap (λ (k : ℕ). refused k r) (sym e))
 
-    eager-judged : questionRefusal r m o s ≡ 0 → Judged r m o s (eager r m o s)
-    eager-judged = eager-true r (loadable-table r (h .loads)) (h .roomy) (h .truthful) m o s
+    eager-judged : questionRefusal r q ≡ 0 → Judged r q (eager r q)
+    eager-judged = eager-true r (loadable-table r (h .loads)) (h .roomy) (h .truthful) q
 
-    lazy-judged : questionRefusal r m o s ≡ 0 → Judged r m o s (lazy r m o s)
-    lazy-judged = lazy-true r (loadable-table r (h .loads)) (h .roomy) (h .truthful) m o s
+    lazy-judged : questionRefusal r q ≡ 0 → Judged r q (lazy r q)
+    lazy-judged = lazy-true r (loadable-table r (h .loads)) (h .roomy) (h .truthful) q
 
-    pub eager-reply : ofAnswer (eager r m o s) ≡ ask b book m o s
-    eager-reply = asked-reply eager m o s eager-judged eager-refused
+    pub eager-reply : ofAnswer (eager r q) ≡ ask b book q
+    eager-reply = asked-reply eager q eager-judged eager-refused
 
-    pub eager-follows : Follows b book (eager r m o s .rules)
-    eager-follows = asked-follows eager m o s eager-judged eager-refused
+    pub eager-follows : Follows b book (eager r q .rules)
+    eager-follows = asked-follows eager q eager-judged eager-refused
 
-    pub lazy-reply : ofAnswer (lazy r m o s) ≡ ask b book m o s
-    lazy-reply = asked-reply lazy m o s lazy-judged lazy-refused
+    pub lazy-reply : ofAnswer (lazy r q) ≡ ask b book q
+    lazy-reply = asked-reply lazy q lazy-judged lazy-refused
 
-    pub lazy-follows : Follows b book (lazy r m o s .rules)
-    lazy-follows = asked-follows lazy m o s lazy-judged lazy-refused
+    pub lazy-follows : Follows b book (lazy r q .rules)
+    lazy-follows = asked-follows lazy q lazy-judged lazy-refused

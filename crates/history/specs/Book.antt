@@ -13,6 +13,7 @@ use Rattle.policy.specs.declared.Record.{Record}
 use Rattle.policy.specs.declared.Edited.{Edited}
 use Rattle.policy.specs.Edits.{added, removed}
 use Rattle.formula.specs.Formula.{isUser, holdsOn}
+use Rattle.justification.specs.declared.Question.{Question}
 use Rattle.justification.specs.Justification.{least}
 use Rattle.justification.specs.Walk.{formulaOf}
 use Rattle.access.specs.declared.Answer.{Answer}
@@ -21,7 +22,7 @@ use Rattle.access.specs.Access.{eager, lazy}
 -- a call's kind and its arguments other than the record
 pub data Call : Type 0 where
   add remove : ℕ → ℕ → ℕ → Call
-  askEagerly askLazily : ℕ → ℕ → ℕ → Call
+  askEagerly askLazily : Question → Call
 
 -- what a call answers: its number, and the set (empty for an edit)
 pub record Reply : Type 0 where
@@ -48,8 +49,13 @@ addRefusal b book l x y =
 abbrev pub removeRefusal : Record → Book → ℕ → ℕ → ℕ → ℕ
 removeRefusal b book l x y = first (cause edgeOutOfRange (not (edgeInRange (b .objects) l x y)) ∷ cause edgeAbsent (not (has book (l ∷ x ∷ y ∷ []))) ∷ [])
 
-abbrev pub askRefusal : Record → ℕ → ℕ → ℕ → ℕ
-askRefusal b m o s = first (cause noMethod (leb (b .«method_count») m) ∷ cause noObject (leb (b .objects) o) ∷ cause notUser (not (isUser b s)) ∷ [])
+abbrev pub askRefusal : Record → Question → ℕ
+askRefusal b q =
+    first
+    (cause noMethod (leb (b .«method_count») (q .method))
+    ∷ cause noObject (leb (b .objects) (q .object))
+    ∷ cause notUser (not (isUser b (q .requestor)))
+    ∷ [])
 
 -- with none denied: 17, empty set; otherwise granted: 0 and the least of them
 abbrev pub verdict : Option ℕ → Reply
@@ -57,25 +63,25 @@ verdict none = plain noSet
 verdict (some c) = record { number = 0; set = c }
 
 -- principal p is enabled in the book's graph, its formula evaluated afresh
-abbrev pub enabledIn : Record → Book → ℕ → ℕ → ℕ → Bool
-enabledIn b book o s p = holdsOn b book (formulaOf b p) o o s
+abbrev pub enabledIn : Record → Book → Question → ℕ → Bool
+enabledIn b book q p = holdsOn b book (formulaOf b p) (q .object) (q .object) (q .requestor)
 
 -- the least consistent set of principals enabled in the book's graph that meets the guard
-abbrev pub ask : Record → Book → ℕ → ℕ → ℕ → Reply
-ask b book m o s = cond (eqb (askRefusal b m o s) 0) (verdict (least b m (enabledIn b book o s))) (plain (askRefusal b m o s))
+abbrev pub ask : Record → Book → Question → Reply
+ask b book q = cond (eqb (askRefusal b q) 0) (verdict (least b (q .method) (enabledIn b book q))) (plain (askRefusal b q))
 
 -- the edge goes in, or out, unless the edit is refused; a question leaves the book
 unfoldable pub booked : Record → Book → Call → Book
 booked b book (add l x y) = cond (eqb (addRefusal b book l x y) 0) ((l ∷ x ∷ y ∷ []) ∷ book) book
 booked b book (remove l x y) = cond (eqb (removeRefusal b book l x y) 0) (those (λ e. not (same (l ∷ x ∷ y ∷ []) e)) book) book
-booked b book (askEagerly m o s) = book
-booked b book (askLazily m o s) = book
+booked b book (askEagerly q) = book
+booked b book (askLazily q) = book
 
 unfoldable pub bookReply : Record → Book → Call → Reply
 bookReply b book (add l x y) = plain (addRefusal b book l x y)
 bookReply b book (remove l x y) = plain (removeRefusal b book l x y)
-bookReply b book (askEagerly m o s) = ask b book m o s
-bookReply b book (askLazily m o s) = ask b book m o s
+bookReply b book (askEagerly q) = ask b book q
+bookReply b book (askLazily q) = ask b book q
 
 -- the book after a list of calls
 unfoldable pub bookAfter : Record → Book → List Call → Book
@@ -93,14 +99,14 @@ ofAnswer a = record { number = a .number; set = a .set }
 unfoldable pub engineLeaves : Record → Call → Record
 engineLeaves r (add l x y) = added r l x y .rules
 engineLeaves r (remove l x y) = removed r l x y .rules
-engineLeaves r (askEagerly m o s) = eager r m o s .rules
-engineLeaves r (askLazily m o s) = lazy r m o s .rules
+engineLeaves r (askEagerly q) = eager r q .rules
+engineLeaves r (askLazily q) = lazy r q .rules
 
 unfoldable pub engineReply : Record → Call → Reply
 engineReply r (add l x y) = ofEdit (added r l x y)
 engineReply r (remove l x y) = ofEdit (removed r l x y)
-engineReply r (askEagerly m o s) = ofAnswer (eager r m o s)
-engineReply r (askLazily m o s) = ofAnswer (lazy r m o s)
+engineReply r (askEagerly q) = ofAnswer (eager r q)
+engineReply r (askLazily q) = ofAnswer (lazy r q)
 
 unfoldable pub engineAfter : Record → List Call → Record
 engineAfter r [] = r

@@ -8,6 +8,7 @@ use Rattle.policy.specs.Table.{changed, withMemo}
 use Rattle.policy.specs.Loadable.{tableLoads, pairsLoad, loadable}
 use Rattle.policy.specs.Edits.{removed}
 use Rattle.formula.specs.Formula.{meaning, trueBelow, holdsOn, holds}
+use Rattle.justification.specs.declared.Question.{Question}
 use Rattle.justification.specs.Justification.{demarcationHas, have, meets, consistent, allSets, candidates, least}
 use Rattle.justification.specs.Predicates.{questionRefusal, isEnabled, liberal, strict}
 use Rattle.justification.specs.Walk.{evaluated, evaluatedAll, eagerly, tried, weighed, walk}
@@ -30,20 +31,23 @@ fresh = load crown .rules
 abbrev pub seen : Answer → List ℕ
 seen a = a .number ∷ a .set ∷ a .evaluations ∷ []
 
--- a question takes method, object (0 the crown) and requestor (1 Ana, 2 Ben)
+-- a question with this method about the crown (object 0), by a requestor (1 Ana, 2 Ben)
+abbrev pub by : ℕ → ℕ → Question
+by method requestor = record { method = method; object = 0; requestor = requestor }
+
 pub record CrownTable : Type 0 where
   pub loads : load crown .number ≡ 0
-  pub a : seen (lazy fresh 0 0 1) ≡ 0 ∷ 6 ∷ 2 ∷ []
-  pub b : seen (eager fresh 0 0 1) ≡ 0 ∷ 6 ∷ 3 ∷ []
-  pub c : seen (lazy fresh 1 0 1) ≡ 0 ∷ 1 ∷ 1 ∷ []
-  pub d : seen (lazy fresh 2 0 1) ≡ 0 ∷ 0 ∷ 0 ∷ []
-  pub e : seen (lazy fresh 3 0 1) ≡ 17 ∷ 0 ∷ 0 ∷ []
-  pub f : liberal fresh 3 0 1 ≡ record { number = 0; yes = true }
-  pub g : strict fresh 3 0 1 ≡ record { number = 0; yes = false }
-  pub h : seen (lazy fresh 0 0 2) ≡ 17 ∷ 0 ∷ 2 ∷ []
-  pub i : strict fresh 0 0 2 ≡ record { number = 0; yes = true }
-  pub j : seen (lazy (removed fresh 1 0 1 .rules) 0 0 1) ≡ 17 ∷ 0 ∷ 1 ∷ []
-  pub k : seen (lazy fresh 0 0 0) ≡ 16 ∷ 0 ∷ 0 ∷ []
+  pub a : seen (lazy fresh (by 0 1)) ≡ 0 ∷ 6 ∷ 2 ∷ []
+  pub b : seen (eager fresh (by 0 1)) ≡ 0 ∷ 6 ∷ 3 ∷ []
+  pub c : seen (lazy fresh (by 1 1)) ≡ 0 ∷ 1 ∷ 1 ∷ []
+  pub d : seen (lazy fresh (by 2 1)) ≡ 0 ∷ 0 ∷ 0 ∷ []
+  pub e : seen (lazy fresh (by 3 1)) ≡ 17 ∷ 0 ∷ 0 ∷ []
+  pub f : liberal fresh (by 3 1) ≡ record { number = 0; yes = true }
+  pub g : strict fresh (by 3 1) ≡ record { number = 0; yes = false }
+  pub h : seen (lazy fresh (by 0 2)) ≡ 17 ∷ 0 ∷ 2 ∷ []
+  pub i : strict fresh (by 0 2) ≡ record { number = 0; yes = true }
+  pub j : seen (lazy (removed fresh 1 0 1 .rules) (by 0 1)) ≡ 17 ∷ 0 ∷ 1 ∷ []
+  pub k : seen (lazy fresh (by 0 0)) ≡ 16 ∷ 0 ∷ 0 ∷ []
 
 -- THE CROWN TABLE
 pub crown-table : CrownTable

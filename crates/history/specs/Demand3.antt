@@ -13,6 +13,7 @@ use Rattle.policy.specs.Table.{edge, rows}
 use Rattle.policy.specs.Edits.{added, removed}
 use Rattle.formula.specs.Formula.{isUser}
 use Rattle.search.specs.Search.{Before}
+use Rattle.justification.specs.declared.Question.{Question}
 use Rattle.justification.specs.Justification.{members, meets, consistent}
 use Rattle.reading.specs.Loading.{load}
 use Rattle.access.specs.declared.Answer.{Answer}
@@ -29,37 +30,37 @@ pub record EditHolds (before after : Book) (number : ℕ) (r left : Record) : Ty
   pub refused : number ≢ 0 → (left ≡ r) × (after ≡ before)
 
 -- "a known method, object and user"
-pub record Known (b : Record) (m o s : ℕ) : Type 0 where
-  pub method : m < b .«method_count»
-  pub object : o < b .objects
-  pub user : isUser b s ≡ true
+pub record Known (b : Record) (q : Question) : Type 0 where
+  pub method : q .method < b .«method_count»
+  pub object : q .object < b .objects
+  pub user : isUser b (q .requestor) ≡ true
 
 -- "[a] set of grounds enabled in the graph of that book at that point [that] is consistent and meets the guard": the principals that are members of c
-pub record Will (b : Record) (book : Book) (m o s c : ℕ) : Type 0 where
+pub record Will (b : Record) (book : Book) (q : Question) (c : ℕ) : Type 0 where
   pub grounds : c < 2 ^ (b .«principal_count»)
-  pub enabled : (p : ℕ) → In p c → enabledIn b book o s p ≡ true
+  pub enabled : (p : ℕ) → In p c → enabledIn b book q p ≡ true
   pub consistent : consistent b c ≡ true
-  pub guard : meets b m (members b c) ≡ true
+  pub guard : meets b (q .method) (members b c) ≡ true
 
 -- "Each question with a known method, object and user is denied exactly when no set .. will do. Otherwise it returns such a set, the least in the documents' order:
 -- every other such set has at least as many members", and of those with as many none has a smaller number (`Before`). A question that is refused changes nothing.
-pub record QuestionHolds (b : Record) (book : Book) (m o s : ℕ) (r : Record) (a : Answer) : Type 0 where
-  pub denied : Known b m o s → ((a .number ≡ noSet) ↔ ((c : ℕ) → Will b book m o s c → ⊥))
-  pub empty : Known b m o s → a .number ≡ noSet → a .set ≡ 0
-  pub granted : Known b m o s → a .number ≢ noSet → (a .number ≡ 0) × Will b book m o s (a .set) × ((c : ℕ) → Will b book m o s c → Before (a .set) c)
-  pub refused : (Known b m o s → ⊥) → (a .rules ≡ r) × (a .set ≡ 0) × (a .number ≢ 0)
+pub record QuestionHolds (b : Record) (book : Book) (q : Question) (r : Record) (a : Answer) : Type 0 where
+  pub denied : Known b q → ((a .number ≡ noSet) ↔ ((c : ℕ) → Will b book q c → ⊥))
+  pub empty : Known b q → a .number ≡ noSet → a .set ≡ 0
+  pub granted : Known b q → a .number ≢ noSet → (a .number ≡ 0) × Will b book q (a .set) × ((c : ℕ) → Will b book q c → Before (a .set) c)
+  pub refused : (Known b q → ⊥) → (a .rules ≡ r) × (a .set ≡ 0) × (a .number ≢ 0)
 
 -- "Eager and lazy forms of one question, put at the same point, return the same set."
-pub record SameSet (r : Record) (m o s : ℕ) : Type 0 where
-  pub number : eager r m o s .number ≡ lazy r m o s .number
-  pub set : eager r m o s .set ≡ lazy r m o s .set
+pub record SameSet (r : Record) (q : Question) : Type 0 where
+  pub number : eager r q .number ≡ lazy r q .number
+  pub set : eager r q .set ≡ lazy r q .set
 
 -- what is said of one call, put to the record r beside the book
 abbrev pub CallHolds : Record → Book → Record → Call → Type 0
 CallHolds b book r (add l x y) = EditHolds book (booked b book (add l x y)) (added r l x y .number) r (added r l x y .rules)
 CallHolds b book r (remove l x y) = EditHolds book (booked b book (remove l x y)) (removed r l x y .number) r (removed r l x y .rules)
-CallHolds b book r (askEagerly m o s) = QuestionHolds b book m o s r (eager r m o s) × SameSet r m o s
-CallHolds b book r (askLazily m o s) = QuestionHolds b book m o s r (lazy r m o s) × SameSet r m o s
+CallHolds b book r (askEagerly q) = QuestionHolds b book q r (eager r q) × SameSet r q
+CallHolds b book r (askLazily q) = QuestionHolds b book q r (lazy r q) × SameSet r q
 
 -- of a whole list: of its first call, and of the others on the record that it left, beside the book after it
 abbrev pub ListHolds : Record → Book → Record → List Call → Type 0

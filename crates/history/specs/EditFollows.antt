@@ -140,15 +140,16 @@ emptied-unknown f = nowhere 64 f
 pub emptied-truthful : (r : Record) → Truthful r (emptied 0 0)
 emptied-truthful r = record { values = λ f e. absurd (false≢true (sym (emptied-unknown f) ∙ e)) }
 
-edited-number : (r : Record) (n : ℕ) (es : List (List ℕ)) → edited r n es .number ≡ n
-edited-number r n es = go (eqb n 0) refl
-  where
-    go : (v : Bool) → eqb n 0 ≡ v → (cond {A = Edited} v (record { number = 0; rules = changed r es (emptied 0 0) }) (record { number = n; rules = r })) .number ≡ n
-    go true e = sym (eqb-true n 0 e)
-    go false e = refl
+module _ (r : Record) (n : ℕ) (es : List (List ℕ)) (m : Memo) where
+  edited-number : edited r n es m .number ≡ n
+  edited-number = go (eqb n 0) refl
+    where
+      go : (v : Bool) → eqb n 0 ≡ v → (cond {A = Edited} v (record { number = 0; rules = changed r es m }) (record { number = n; rules = r })) .number ≡ n
+      go true e = sym (eqb-true n 0 e)
+      go false e = refl
 
-edited-refused : (r : Record) (n : ℕ) (es : List (List ℕ)) → eqb n 0 ≡ false → edited r n es .rules ≡ r
-edited-refused r n es e = ap (λ (v : Bool). (cond {A = Edited} v (record { number = 0; rules = changed r es (emptied 0 0) }) (record { number = n; rules = r })) .rules) e
+  edited-refused : eqb n 0 ≡ false → edited r n es m .rules ≡ r
+  edited-refused e = ap (λ (v : Bool). (cond {A = Edited} v (record { number = 0; rules = changed r es m }) (record { number = n; rules = r })) .rules) e
 
 module _ (b : Record) (book : Book) (r : Record) (h : Follows b book r) where
   objects : r .objects ≡ b .objects
@@ -184,11 +185,11 @@ module _ (b : Record) (book : Book) (r : Record) (h : Follows b book r) where
 
     pub add-number : added r l x y .number ≡ addRefusal b book l x y
     unfolding added
-    add-number = edited-number r (edits.addRefusal r l x y) _ ∙ add-refusal
+    add-number = edited-number r (edits.addRefusal r l x y) _ _ ∙ add-refusal
 
     pub add-refused : eqb (addRefusal b book l x y) 0 ≡ false → added r l x y .rules ≡ r
     unfolding added
-    add-refused e = edited-refused r (edits.addRefusal r l x y) _ (ap (λ (n : ℕ). eqb n 0) add-refusal ∙ e)
+    add-refused e = edited-refused r (edits.addRefusal r l x y) _ _ (ap (λ (n : ℕ). eqb n 0) add-refusal ∙ e)
 
     add-accepted : added r l x y .number ≡ 0 → Follows b (it ∷ book) (added r l x y .rules)
     add-accepted ok =
@@ -217,11 +218,11 @@ module _ (b : Record) (book : Book) (r : Record) (h : Follows b book r) where
 
     pub remove-number : removed r l x y .number ≡ removeRefusal b book l x y
     unfolding removed
-    remove-number = edited-number r (edits.removeRefusal r l x y) _ ∙ remove-refusal
+    remove-number = edited-number r (edits.removeRefusal r l x y) _ _ ∙ remove-refusal
 
     pub remove-refused : eqb (removeRefusal b book l x y) 0 ≡ false → removed r l x y .rules ≡ r
     unfolding removed
-    remove-refused e = edited-refused r (edits.removeRefusal r l x y) _ (ap (λ (n : ℕ). eqb n 0) remove-refusal ∙ e)
+    remove-refused e = edited-refused r (edits.removeRefusal r l x y) _ _ (ap (λ (n : ℕ). eqb n 0) remove-refusal ∙ e)
 
     remove-accepted : removed r l x y .number ≡ 0 → Follows b (without it book) (removed r l x y .rules)
     remove-accepted ok =

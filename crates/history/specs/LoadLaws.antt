@@ -16,7 +16,7 @@ use Rattle.policy.specs.Table.{Kind, head, user, edge, formula, demarcation, hi
 use Rattle.policy.specs.Height.{height}
 use Rattle.policy.specs.Rows.{inRange, rowCauses, rowRefusal}
 use Rattle.policy.specs.Loadable.{zeroFrom, tableLoads, loadable}
-use Rattle.policy.specs.Edits.{inserted, without, edited, addRefusal, removeRefusal, added, removed}
+use Rattle.policy.specs.Edits.{inserted, without, memoLeft, edited, addRefusal, removeRefusal, added, removed}
 use Rattle.policy.specs.EditLaws.{adds, added-loadable, removes, removed-loadable}
 use Rattle.justification.specs.Justification.{candidates}
 use Rattle.justification.specs.Predicates.{questionRefusal}
@@ -72,25 +72,26 @@ module _ (r : Record) (m : Memo) where
   memo-aside = λ j. every (λ k. table-aside k j) kinds && (not (circular (rows hierarchy r)) && not (circular (rows prerequisite r)))
 
 -- an edit, by its number
-edit-loads : (r : Record) (n : ℕ) (es : List (List ℕ)) → (edited r n es .number ≡ 0 → loadable (edited r n es .rules) ≡ loadable r) → loadable (edited r n es .rules) ≡ loadable r
-edit-loads r n es accepted = go (eqb n 0) refl
+edit-loads : (r : Record) (n : ℕ) (es : List (List ℕ)) (m : Memo)
+    → (edited r n es m .number ≡ 0 → loadable (edited r n es m .rules) ≡ loadable r) → loadable (edited r n es m .rules) ≡ loadable r
+edit-loads r n es m accepted = go (eqb n 0) refl
   where
     is : Bool → Edited
-    is b = cond b (record { number = 0; rules = changed r es (emptied 0 0) }) (record { number = n; rules = r })
+    is b = cond b (record { number = 0; rules = changed r es m }) (record { number = n; rules = r })
 
-    go : (b : Bool) → eqb n 0 ≡ b → loadable (edited r n es .rules) ≡ loadable r
+    go : (b : Bool) → eqb n 0 ≡ b → loadable (edited r n es m .rules) ≡ loadable r
     go true e = accepted (ap (λ (b : Bool). is b .number) e)
     go false e = ap (λ (b : Bool). loadable (is b .rules)) e
 
 add-loads : (r : Record) (l x y : ℕ) → loadable (added r l x y .rules) ≡ loadable r
 unfolding added
 add-loads r l x y =
-    edit-loads r (addRefusal r l x y) (inserted (l ∷ x ∷ y ∷ []) (rows edge r)) (λ ok. added-loadable r l x y ok ∙ sym (adds r l x y ok .loads))
+    edit-loads r (addRefusal r l x y) (inserted (l ∷ x ∷ y ∷ []) (rows edge r)) (memoLeft r l) (λ ok. added-loadable r l x y ok ∙ sym (adds r l x y ok .loads))
 
 remove-loads : (r : Record) (l x y : ℕ) → loadable (removed r l x y .rules) ≡ loadable r
 unfolding removed
 remove-loads r l x y =
-    edit-loads r (removeRefusal r l x y) (without (l ∷ x ∷ y ∷ []) (rows edge r)) (λ ok. removed-loadable r l x y ok ∙ sym (removes r l x y ok .loads))
+    edit-loads r (removeRefusal r l x y) (without (l ∷ x ∷ y ∷ []) (rows edge r)) (memoLeft r l) (λ ok. removed-loadable r l x y ok ∙ sym (removes r l x y ok .loads))
 
 -- a question
 answered-loads : (r : Record) (before : Memo) (x : Outcome) → loadable (answered r before x .rules) ≡ loadable r
@@ -105,14 +106,14 @@ asked-loads r n before x = go (eqb n 0) refl
     go true e = ap (λ (b : Bool). loadable (cond b (answered r before x) (refused n r) .rules)) e ∙ answered-loads r before x
     go false e = ap (λ (b : Bool). loadable (cond b (answered r before x) (refused n r) .rules)) e
 
-pub answer-loads : (r : Record) (q : Request) → loadable (answerTo r q .rules) ≡ loadable r
+pub answer-loads : (r : Record) (x : Request) → loadable (answerTo r x .rules) ≡ loadable r
 unfolding answerTo eager lazy
 answer-loads r (call (add l x y)) = add-loads r l x y
 answer-loads r (call (remove l x y)) = remove-loads r l x y
-answer-loads r (call (askEagerly m o s)) =
-    asked-loads r (questionRefusal r m o s) (memoFor (r .memo) o s) (eagerly r m (evaluatedAll (truthAt r o s) r (memoFor (r .memo) o s) (below (r .«principal_count»))))
-answer-loads r (call (askLazily m o s)) =
-    asked-loads r (questionRefusal r m o s) (memoFor (r .memo) o s) (walk (truthAt r o s) r (memoFor (r .memo) o s) (candidates r m))
-answer-loads r (liberally m o s) = refl
-answer-loads r (strictly m o s) = refl
+answer-loads r (call (askEagerly q)) =
+    asked-loads r (questionRefusal r q) (memoFor (r .memo) q) (eagerly r (q .method) (evaluatedAll (truthAt r q) r (memoFor (r .memo) q) (below (r .«principal_count»))))
+answer-loads r (call (askLazily q)) =
+    asked-loads r (questionRefusal r q) (memoFor (r .memo) q) (walk (truthAt r q) r (memoFor (r .memo) q) (candidates r (q .method)))
+answer-loads r (liberally q) = refl
+answer-loads r (strictly q) = refl
 answer-loads r unknown = refl

@@ -10,6 +10,7 @@ use Rattle.octets.specs.Number.{inOctets}
 use Rattle.policy.specs.declared.Record.{Record}
 use Rattle.policy.specs.declared.Edited.{Edited}
 use Rattle.policy.specs.Edits.{added, removed}
+use Rattle.justification.specs.declared.Question.{Question}
 use Rattle.justification.specs.declared.Verdict.{Verdict}
 use Rattle.justification.specs.Predicates.{liberal, strict}
 use Rattle.access.specs.declared.Answer.{Answer}
@@ -19,18 +20,21 @@ use Rattle.history.specs.Book.{Call, add, remove, askEagerly, askLazily}
 -- a request: a call of demand 3, one of the predicates, or no kind that there is
 pub data Request : Type 0 where
   call : Call → Request
-  liberally strictly : ℕ → ℕ → ℕ → Request
+  liberally strictly : Question → Request
   unknown : Request
+
+abbrev pub questionOf : ℕ → ℕ → ℕ → Question
+questionOf m o s = record { method = m; object = o; requestor = s }
 
 -- by its kind octet: 0 add, 1 remove, 2 eager, 3 lazy, 4 liberal, 5 strict
 abbrev pub requestOf : ℕ → ℕ → ℕ → ℕ → Request
 requestOf kind a b c =
     cond (eqb kind 0) (call (add a b c))
     (cond (eqb kind 1) (call (remove a b c))
-    (cond (eqb kind 2) (call (askEagerly a b c))
-    (cond (eqb kind 3) (call (askLazily a b c))
-    (cond (eqb kind 4) (liberally a b c)
-    (cond (eqb kind 5) (strictly a b c)
+    (cond (eqb kind 2) (call (askEagerly (questionOf a b c)))
+    (cond (eqb kind 3) (call (askLazily (questionOf a b c)))
+    (cond (eqb kind 4) (liberally (questionOf a b c))
+    (cond (eqb kind 5) (strictly (questionOf a b c))
     unknown)))))
 
 abbrev pub ofEdit : Edited → Answer
@@ -44,10 +48,10 @@ ofVerdict r v = record { number = v .number; set = cond (v .yes) 1 0; evaluation
 unfoldable pub answerTo : Record → Request → Answer
 answerTo r (call (add l x y)) = ofEdit (added r l x y)
 answerTo r (call (remove l x y)) = ofEdit (removed r l x y)
-answerTo r (call (askEagerly m o s)) = eager r m o s
-answerTo r (call (askLazily m o s)) = lazy r m o s
-answerTo r (liberally m o s) = ofVerdict r (liberal r m o s)
-answerTo r (strictly m o s) = ofVerdict r (strict r m o s)
+answerTo r (call (askEagerly q)) = eager r q
+answerTo r (call (askLazily q)) = lazy r q
+answerTo r (liberally q) = ofVerdict r (liberal r q)
+answerTo r (strictly q) = ofVerdict r (strict r q)
 answerTo r unknown = record { number = wrongKind; set = 0; evaluations = 0; rules = r }
 
 -- an answer's octets: number, set in 3 octets, evaluations

@@ -16,8 +16,8 @@ use Rattle.history.specs.Replay.{Request, call, liberally, strictly, unk
 -- the call that a request is; a predicate and an unknown kind are none
 abbrev pub callsOf : Request → List Call
 callsOf (call c) = c ∷ []
-callsOf (liberally m o s) = []
-callsOf (strictly m o s) = []
+callsOf (liberally q) = []
+callsOf (strictly q) = []
 callsOf unknown = []
 
 -- the calls among the first n requests, in order
@@ -30,14 +30,14 @@ unfolding engineAfter
 after-append r [] ds = refl
 after-append r (c ∷ cs) ds = after-append (engineLeaves r c) cs ds
 
-leaves : (r : Record) (q : Request) → answerTo r q .rules ≡ engineAfter r (callsOf q)
+leaves : (r : Record) (x : Request) → answerTo r x .rules ≡ engineAfter r (callsOf x)
 unfolding answerTo engineAfter engineLeaves
 leaves r (call (add l x y)) = refl
 leaves r (call (remove l x y)) = refl
-leaves r (call (askEagerly m o s)) = refl
-leaves r (call (askLazily m o s)) = refl
-leaves r (liberally m o s) = refl
-leaves r (strictly m o s) = refl
+leaves r (call (askEagerly q)) = refl
+leaves r (call (askLazily q)) = refl
+leaves r (liberally q) = refl
+leaves r (strictly q) = refl
 leaves r unknown = refl
 
 -- the record left is the engine's after those calls
@@ -60,8 +60,8 @@ reply-is : (b : Record) (book : Book) (r : Record) → Follows b book r → (c :
 unfolding answerTo bookReply
 reply-is b book r h (add l x y) = ap (λ (k : ℕ). plain k) (add-number b book r h l x y)
 reply-is b book r h (remove l x y) = ap (λ (k : ℕ). plain k) (remove-number b book r h l x y)
-reply-is b book r h (askEagerly m o s) = eager-reply b book r h m o s
-reply-is b book r h (askLazily m o s) = lazy-reply b book r h m o s
+reply-is b book r h (askEagerly q) = eager-reply b book r h q
+reply-is b book r h (askLazily q) = lazy-reply b book r h q
 
 -- ---- a record just loaded, and any octets of requests
 
@@ -81,4 +81,4 @@ module _ (text : List ℕ) (loads : load text .number ≡ 0) (calls : List ℕ) 
 
   -- and its answer's number and set are the book's
   pub point-replies : (c : Call) → requestAt calls n ≡ call c → ofAnswer (answerTo (leftAfter b calls n) (requestAt calls n)) ≡ bookReply b book c
-  point-replies c e = ap (λ (q : Request). ofAnswer (answerTo (leftAfter b calls n) q)) e ∙ reply-is b book (leftAfter b calls n) follows c
+  point-replies c e = ap (λ (x : Request). ofAnswer (answerTo (leftAfter b calls n) x)) e ∙ reply-is b book (leftAfter b calls n) follows c

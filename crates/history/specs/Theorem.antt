@@ -22,6 +22,7 @@ use Rattle.policy.specs.Table.{edge, row, rows}
 use Rattle.rows.specs.Checks.{edgeInRange}
 use Rattle.policy.specs.Edits.{without, added, removed}
 use Rattle.formula.specs.Formula.{isUser}
+use Rattle.justification.specs.declared.Question.{Question}
 use Rattle.justification.specs.Justification.{members, meets, consistent, least}
 use Rattle.justification.specs.Order.{IsLeast}
 use Rattle.justification.specs.OrderFact as order
@@ -45,15 +46,15 @@ edit-holds : (before after : Book) (n number : ℕ) (r left : Record) → number
     → EditHolds before after number r left
 edit-holds before after n number r left e changes stays keeps =
     record {
-      accepted = (λ z. changes (sym e ∙ z), λ (d, f). decide n e (λ x. absurd (f (ap (λ (q : Book). has q d) (sym (stays x))))));
+      accepted = (λ z. changes (sym e ∙ z), λ (d, f). decide n e (λ x. absurd (f (ap (λ (k : Book). has k d) (sym (stays x))))));
       refused = λ x. (keeps (λ z. x (e ∙ z)), stays (λ z. x (e ∙ z)));
     }
   where
     decide : (k : ℕ) → number ≡ k → (k ≢ 0 → ⊥) → number ≡ 0
-    decide k q f = go (eqb k 0) refl
+    decide k i f = go (eqb k 0) refl
       where
         go : (v : Bool) → eqb k 0 ≡ v → number ≡ 0
-        go true u = q ∙ eqb-true k 0 u
+        go true u = i ∙ eqb-true k 0 u
         go false u = absurd (f (eqb-false k 0 u))
 
 same-self : (e : List ℕ) → same e e ≡ true
@@ -107,52 +108,52 @@ module _ (b : Record) (book : Book) (r : Record) (h : Follows b book r) where
 
   -- ---- questions
 
-  module _ (m o s : ℕ) where
+  module _ (q : Question) where
     -- a known method, object and user is what is not refused
-    known-asked : Known b m o s → askRefusal b m o s ≡ 0
-    known-asked k = rw (lt-leb (b .«method_count») m (k .method), lt-leb (b .objects) o (k .object), k .user) refl
+    known-asked : Known b q → askRefusal b q ≡ 0
+    known-asked k = rw (lt-leb (b .«method_count») (q .method) (k .method), lt-leb (b .objects) (q .object) (k .object), k .user) refl
 
-    asked-known : askRefusal b m o s ≡ 0 → Known b m o s
-    asked-known z = go (leb (b .«method_count») m) (leb (b .objects) o) (isUser b s) refl refl refl z
+    asked-known : askRefusal b q ≡ 0 → Known b q
+    asked-known z = go (leb (b .«method_count») (q .method)) (leb (b .objects) (q .object)) (isUser b (q .requestor)) refl refl refl z
       where
-        go : (u v w : Bool) → leb (b .«method_count») m ≡ u → leb (b .objects) o ≡ v → isUser b s ≡ w → first (cause noMethod u ∷ cause noObject v ∷ cause notUser (not w) ∷ []) ≡ 0 → Known b m o s
-        go true v w p q t e = absurd (omega arith)
-        go false true w p q t e = absurd (omega arith)
-        go false false true p q t e = record { method = leb-false (b .«method_count») m p; object = leb-false (b .objects) o q; user = t }
-        go false false false p q t e = absurd (omega arith)
+        go : (u v w : Bool) → leb (b .«method_count») (q .method) ≡ u → leb (b .objects) (q .object) ≡ v → isUser b (q .requestor) ≡ w → first (cause noMethod u ∷ cause noObject v ∷ cause notUser (not w) ∷ []) ≡ 0 → Known b q
+        go true v w p i t e = absurd (omega arith)
+        go false true w p i t e = absurd (omega arith)
+        go false false true p i t e = record { method = leb-false (b .«method_count») (q .method) p; object = leb-false (b .objects) (q .object) i; user = t }
+        go false false false p i t e = absurd (omega arith)
 
     -- a set that will do is one that passes
     passes : ℕ → Bool
-    passes c = (consistent b c && meets b m (members b c)) && every (enabledIn b book o s) (members b c)
+    passes c = (consistent b c && meets b (q .method) (members b c)) && every (enabledIn b book q) (members b c)
 
-    passes-will : (c : ℕ) → c < 2 ^ (b .«principal_count») → passes c ≡ true → Will b book m o s c
+    passes-will : (c : ℕ) → c < 2 ^ (b .«principal_count») → passes c ≡ true → Will b book q c
     unfolding passes
     passes-will c l e =
-        let (x, en) = and-cases (consistent b c && meets b m (members b c)) _ e in
+        let (x, en) = and-cases (consistent b c && meets b (q .method) (members b c)) _ e in
         let (co, me) = and-cases (consistent b c) _ x in
         record {
           grounds = l;
-          enabled = λ p i. all-of (enabledIn b book o s) (λ p. member p c) (b .«principal_count») .0 en p (in-lt (b .«principal_count») i l) (in-member i);
+          enabled = λ p i. all-of (enabledIn b book q) (λ p. member p c) (b .«principal_count») .0 en p (in-lt (b .«principal_count») i l) (in-member i);
           consistent = co;
           guard = me;
         }
 
-    will-passes : (c : ℕ) → Will b book m o s c → passes c ≡ true
+    will-passes : (c : ℕ) → Will b book q c → passes c ≡ true
     unfolding passes
     will-passes c w =
-        and-both (consistent b c && meets b m (members b c)) _ (and-both (consistent b c) _ (w .consistent) (w .guard))
-        (all-of (enabledIn b book o s) (λ p. member p c) (b .«principal_count») .1 (λ p l e. w .enabled p (member-in e)))
+        and-both (consistent b c && meets b (q .method) (members b c)) _ (and-both (consistent b c) _ (w .consistent) (w .guard))
+        (all-of (enabledIn b book q) (λ p. member p c) (b .«principal_count») .1 (λ p l e. w .enabled p (member-in e)))
 
-    least-passes : IsLeast (b .«principal_count») passes (least b m (enabledIn b book o s))
+    least-passes : IsLeast (b .«principal_count») passes (least b (q .method) (enabledIn b book q))
     unfolding passes
-    least-passes = order.least-is b m (enabledIn b book o s)
+    least-passes = order.least-is b (q .method) (enabledIn b book q)
 
     -- what the verdict of a least set says
     module _ (found : Option ℕ) (is : IsLeast (b .«principal_count») passes found) where
-      verdict-denied : (verdict found .number ≡ noSet) ↔ ((c : ℕ) → Will b book m o s c → ⊥)
+      verdict-denied : (verdict found .number ≡ noSet) ↔ ((c : ℕ) → Will b book q c → ⊥)
       verdict-denied = go found is
         where
-          go : (f : Option ℕ) → IsLeast (b .«principal_count») passes f → ((verdict f .number ≡ noSet) ↔ ((c : ℕ) → Will b book m o s c → ⊥))
+          go : (f : Option ℕ) → IsLeast (b .«principal_count») passes f → ((verdict f .number ≡ noSet) ↔ ((c : ℕ) → Will b book q c → ⊥))
           go none n = (λ e c w. n c (w .grounds) (will-passes c w), λ f. refl)
           go (some c) n = (λ e. absurd (omega arith), λ f. absurd (f c (passes-will c (n .0) (n .1))))
 
@@ -163,53 +164,53 @@ module _ (b : Record) (book : Book) (r : Record) (h : Follows b book r) where
           go none e = refl
           go (some c) e = absurd (omega arith)
 
-      verdict-granted : verdict found .number ≢ noSet → (verdict found .number ≡ 0) × Will b book m o s (verdict found .set) × ((c : ℕ) → Will b book m o s c → Before (verdict found .set) c)
+      verdict-granted : verdict found .number ≢ noSet → (verdict found .number ≡ 0) × Will b book q (verdict found .set) × ((c : ℕ) → Will b book q c → Before (verdict found .set) c)
       verdict-granted = go found is
         where
           go : (f : Option ℕ) → IsLeast (b .«principal_count») passes f
-              → verdict f .number ≢ noSet → (verdict f .number ≡ 0) × Will b book m o s (verdict f .set) × ((c : ℕ) → Will b book m o s c → Before (verdict f .set) c)
+              → verdict f .number ≢ noSet → (verdict f .number ≡ 0) × Will b book q (verdict f .set) × ((c : ℕ) → Will b book q c → Before (verdict f .set) c)
           go none n x = absurd (x refl)
           go (some c) n x = (refl, passes-will c (n .0) (n .1), λ d w. n .2 d (w .grounds) (will-passes d w))
 
     -- of any answer that is the book's reply
-    question-holds : (a : Answer) → ofAnswer a ≡ ask b book m o s → (askRefusal b m o s ≢ 0 → a ≡ refused (askRefusal b m o s) r) → QuestionHolds b book m o s r a
+    question-holds : (a : Answer) → ofAnswer a ≡ ask b book q → (askRefusal b q ≢ 0 → a ≡ refused (askRefusal b q) r) → QuestionHolds b book q r a
     question-holds a e other =
         record {
-          denied = λ k. subst (λ (v : Reply). (v .number ≡ noSet) ↔ ((c : ℕ) → Will b book m o s c → ⊥)) (sym (told k)) (verdict-denied (least b m (enabledIn b book o s)) least-passes);
-          empty = λ k. subst (λ (v : Reply). v .number ≡ noSet → v .set ≡ 0) (sym (told k)) (verdict-empty (least b m (enabledIn b book o s)) least-passes);
-          granted = λ k. subst (λ (v : Reply). v .number ≢ noSet → (v .number ≡ 0) × Will b book m o s (v .set) × ((c : ℕ) → Will b book m o s c → Before (v .set) c)) (sym (told k)) (verdict-granted (least b m (enabledIn b book o s)) least-passes);
-          refused = λ n. (ap (λ (x : Answer). x .rules) (turned n), ap (λ (x : Answer). x .set) (turned n), λ q. n (asked-known (sym (ap (λ (x : Answer). x .number) (turned n)) ∙ q)));
+          denied = λ k. subst (λ (v : Reply). (v .number ≡ noSet) ↔ ((c : ℕ) → Will b book q c → ⊥)) (sym (is-verdict k)) (verdict-denied (least b (q .method) (enabledIn b book q)) least-passes);
+          empty = λ k. subst (λ (v : Reply). v .number ≡ noSet → v .set ≡ 0) (sym (is-verdict k)) (verdict-empty (least b (q .method) (enabledIn b book q)) least-passes);
+          granted = λ k. subst (λ (v : Reply). v .number ≢ noSet → (v .number ≡ 0) × Will b book q (v .set) × ((c : ℕ) → Will b book q c → Before (v .set) c)) (sym (is-verdict k)) (verdict-granted (least b (q .method) (enabledIn b book q)) least-passes);
+          refused = λ n. (ap (λ (x : Answer). x .rules) (turned n), ap (λ (x : Answer). x .set) (turned n), λ z. n (asked-known (sym (ap (λ (x : Answer). x .number) (turned n)) ∙ z)));
         }
       where
-        told : Known b m o s → ofAnswer a ≡ verdict (least b m (enabledIn b book o s))
-        told k = e ∙ rw (eq-eqb (askRefusal b m o s) 0 (known-asked k)) refl
+        is-verdict : Known b q → ofAnswer a ≡ verdict (least b (q .method) (enabledIn b book q))
+        is-verdict k = e ∙ rw (eq-eqb (askRefusal b q) 0 (known-asked k)) refl
 
-        turned : (Known b m o s → ⊥) → a ≡ refused (askRefusal b m o s) r
-        turned n = other (λ q. n (asked-known q))
+        turned : (Known b q → ⊥) → a ≡ refused (askRefusal b q) r
+        turned n = other (λ z. n (asked-known z))
 
-    eager-holds : QuestionHolds b book m o s r (eager r m o s)
-    eager-holds = question-holds (eager r m o s) (eager-reply b book r h m o s) (λ z. eager-refused b book r h m o s (askRefusal b m o s) (sym (refusal-is b book r h m o s)) z)
+    eager-holds : QuestionHolds b book q r (eager r q)
+    eager-holds = question-holds (eager r q) (eager-reply b book r h q) (λ z. eager-refused b book r h q (askRefusal b q) (sym (refusal-is b book r h q)) z)
 
-    lazy-holds : QuestionHolds b book m o s r (lazy r m o s)
-    lazy-holds = question-holds (lazy r m o s) (lazy-reply b book r h m o s) (λ z. lazy-refused b book r h m o s (askRefusal b m o s) (sym (refusal-is b book r h m o s)) z)
+    lazy-holds : QuestionHolds b book q r (lazy r q)
+    lazy-holds = question-holds (lazy r q) (lazy-reply b book r h q) (λ z. lazy-refused b book r h q (askRefusal b q) (sym (refusal-is b book r h q)) z)
 
-    same-set : SameSet r m o s
+    same-set : SameSet r q
     same-set =
-        let e : ofAnswer (eager r m o s) ≡ ofAnswer (lazy r m o s) = eager-reply b book r h m o s ∙ sym (lazy-reply b book r h m o s) in
+        let e : ofAnswer (eager r q) ≡ ofAnswer (lazy r q) = eager-reply b book r h q ∙ sym (lazy-reply b book r h q) in
         record { number = ap (λ (v : Reply). v .number) e; set = ap (λ (v : Reply). v .set) e }
 
   pub call-holds : (c : Call) → CallHolds b book r c
   call-holds (add l x y) = add-holds l x y
   call-holds (remove l x y) = remove-holds l x y
-  call-holds (askEagerly m o s) = (eager-holds m o s, same-set m o s)
-  call-holds (askLazily m o s) = (lazy-holds m o s, same-set m o s)
+  call-holds (askEagerly q) = (eager-holds q, same-set q)
+  call-holds (askLazily q) = (lazy-holds q, same-set q)
 
   pub call-follows : (c : Call) → Follows b (booked b book c) (engineLeaves r c)
   unfolding booked engineLeaves
   call-follows (add l x y) = add-follows b book r h l x y
   call-follows (remove l x y) = remove-follows b book r h l x y
-  call-follows (askEagerly m o s) = eager-follows b book r h m o s
-  call-follows (askLazily m o s) = lazy-follows b book r h m o s
+  call-follows (askEagerly q) = eager-follows b book r h q
+  call-follows (askLazily q) = lazy-follows b book r h q
 
 -- ---- whole lists
 

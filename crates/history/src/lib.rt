@@ -6,8 +6,9 @@ ghost use Prim.Native.Nat.{_+_, _/_, _≤_, min};
 ghost use lib.ListN.{length, take, drop};
 ghost use Rattle.octets.specs.Number.{inOctets};
 ghost use Rattle.policy.specs.Loadable as validity;
-ghost use Rattle.history.specs.Replay.{requestOf, ofEdit, ofVerdict, answerTo, answeredCount, bufferAfter};
+ghost use Rattle.history.specs.Replay.{requestOf, questionOf, ofEdit, ofVerdict, answerTo, answeredCount, bufferAfter};
 use access::Answer;
+use justification::Question;
 use justification::Verdict;
 use policy::Edited;
 use policy::Record;
@@ -45,6 +46,17 @@ fn of_verdict(rules: Record, verdict: Verdict) -> Answer
     }
 }
 
+// The question of a request: method, object, requestor.
+fn question_of(a: u8, b: u8, c: u8) -> Question
+    ensures { λ r. ⌜ r ≡ questionOf a b c ⌝ }
+{
+    Question {
+        method: a,
+        object: b,
+        requestor: c,
+    }
+}
+
 // Answers one request: 0 add, 1 remove, 2 eager, 3 lazy, 4 liberal, 5 strict; a kind above 5 is answered with 4.
 pub fn answer(rules: Record, kind: u8, a: u8, b: u8, c: u8) -> Answer
     ensures { λ r. ⌜ r ≡ answerTo rules (requestOf kind a b c) ⌝ }
@@ -61,10 +73,16 @@ fn answer_if(rules: Record, loads: bool, kind: u8, a: u8, b: u8, c: u8) -> Answe
     match kind {
         0 => of_edit(rules.add_edge_if(loads, a, b, c)),
         1 => of_edit(rules.remove_edge_if(loads, a, b, c)),
-        2 => access::ask_eager_if(rules, loads, a, b, c),
-        3 => access::ask_lazy_if(rules, loads, a, b, c),
-        4 => of_verdict(rules, justification::liberal_if(rules, loads, a, b, c)),
-        5 => of_verdict(rules, justification::strict_if(rules, loads, a, b, c)),
+        2 => access::ask_eager_if(rules, loads, question_of(a, b, c)),
+        3 => access::ask_lazy_if(rules, loads, question_of(a, b, c)),
+        4 => of_verdict(
+            rules,
+            justification::liberal_if(rules, loads, question_of(a, b, c)),
+        ),
+        5 => of_verdict(
+            rules,
+            justification::strict_if(rules, loads, question_of(a, b, c)),
+        ),
         6..=255 => Answer {
             number: common::WRONG_KIND,
             set: 0,

@@ -12,7 +12,7 @@ use Rattle.common.specs.Causes.{first}
 use Rattle.rows.specs.Checks.{causes}
 use Rattle.policy.specs.declared.Record.{Record}
 use Rattle.policy.specs.Table.{Kind, principal, exclusion, count, room, row}
-use Rattle.policy.specs.Rows.{limited, inRange, rising, key, leastKey, rowCauses, rowRefusal}
+use Rattle.policy.specs.Rows.{limited, inRange, rising, key, minimumKey, rowCauses, rowRefusal}
 use Rattle.policy.specs.Loadable.{tableLoads}
 use Rattle.policy.specs.LoadableLaws.{table-rows, table-few}
 
@@ -26,7 +26,7 @@ pub line-in-range : (r : Record) (k : Kind) → tableLoads r k ≡ true → (i :
 unfolding rowRefusal rowCauses
 line-in-range r k e i l =
     let h = every-at (λ j. eqb (rowRefusal k j r (row k j r)) 0) (below (count k r)) i 0 (table-rows r k e) (omega (arith, length-table (count k r) (λ (j : ℕ). j))) in
-    in-range (limited k && leb (room k) i) (inRange k i r (row k i r)) (rising k && ltb (key k (row k i r)) (leastKey k i r)) (ap (λ (j : ℕ). eqb (rowRefusal k j r (row k j r)) 0) (sym (table-at (count k r) (λ (j : ℕ). j) i 0 l)) ∙ h)
+    in-range (limited k && leb (room k) i) (inRange k i r (row k i r)) (rising k && ltb (key k (row k i r)) (minimumKey k i r)) (ap (λ (j : ℕ). eqb (rowRefusal k j r (row k j r)) 0) (sym (table-at (count k r) (λ (j : ℕ). j) i 0 l)) ∙ h)
 
 module _ (r : Record) (loads : (j : Kind) → tableLoads r j ≡ true) (i : ℕ) where
   pub principal-named : i < r .«principal_count» → (at (r .«principal_formulas») i < r .«formula_count») × (at (r .«principal_demarcations») i < r .«demarcation_count»)

@@ -2,6 +2,6 @@ mod Zero
 mod Tables
 mod Pairs
 mod Shifts
-mod Places
+mod EdgeRows
 mod Columns
 mod Answers

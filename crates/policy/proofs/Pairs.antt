@@ -15,14 +15,14 @@ use Rattle.closure.specs.Closure.{On, Listed, pairsOf, Star, Below, Circle, cir
 use Rattle.closure.specs.ClosureFact.{circle-circular}
 use Rattle.common.specs.Causes.{first}
 use Rattle.rows.specs.Checks.{causes, pairInRange, pairKey}
-use Rattle.policy.specs.Loadable.{zeroFrom, leastPair, pairRefusal, pairsLoad}
+use Rattle.policy.specs.Loadable.{zeroFrom, minimumPairKey, pairRefusal, pairsLoad}
 use Rattle.policy.specs.LoadableLaws.{pairs-few, pairs-named, pairs-proper}
 
 module _ (things : ℕ) (a b : List ℕ) where
   -- whether the pairs below i are ones that loading takes, and the least key that may follow
   pub record PairsFit (fit : Bool) (least i : ℕ) : Type 0 where
     pub fits : fit ≡ every (λ x. eqb (pairRefusal things a b x) 0) (below i)
-    pub next : least ≡ leastPair i a b
+    pub next : least ≡ minimumPairKey i a b
 
   pub pairs-none : PairsFit true 0 0
   pairs-none = record { fits = refl; next = refl }
@@ -36,7 +36,7 @@ module _ (things : ℕ) (a b : List ℕ) where
       record {
         fits = (λ j. p .fits j && eqb ((e ∙ row) j) 0) ∙ sym (every-more (λ x. eqb (pairRefusal things a b x) 0) i (λ x. x))
             ∙ ap (λ (n : ℕ). every (λ x. eqb (pairRefusal things a b x) 0) (below n)) (sym (add-one i));
-        next = f ∙ ap (λ (n : ℕ). leastPair n a b) (sym (add-one i));
+        next = f ∙ ap (λ (n : ℕ). minimumPairKey n a b) (sym (add-one i));
       }
 
   pub pairs-over : (n : ℕ) → 380 < n → false ≡ pairsLoad things n a b

@@ -10,7 +10,7 @@ use Rattle.common.specs.Lists.{every}
 use Rattle.common.specs.ListLaws.{every-more}
 use Rattle.policy.specs.declared.Record.{Record}
 use Rattle.policy.specs.Table.{Kind, demarcation, count, columns, room, row}
-use Rattle.policy.specs.Rows.{inRange, key, leastKey, rowCauses, rowRefusal}
+use Rattle.policy.specs.Rows.{inRange, key, minimumKey, rowCauses, rowRefusal}
 use Rattle.policy.specs.Loadable.{rowsLoad, zeroFrom, tableLoads}
 
 -- ---- lines one by one
@@ -27,8 +27,8 @@ fits-more {r} {k} {fit} {i} g e =
     record { fits = (λ j. g .fits j && eqb (e j) 0) ∙ sym (every-more (λ x. eqb (rowRefusal k x r (row k x r)) 0) i (λ x. x)) ∙ ap (rowsLoad r k) (sym (add-one i)) }
 
 -- the least key that may follow the line at i
-pub least-more : (r : Record) (k : Kind) (i : ℕ) {least : ℕ} → least ≡ key k (row k i r) + 1 → least ≡ leastKey k (i + 1) r
-least-more r k i e = e ∙ ap (λ (x : ℕ). leastKey k x r) (sym (add-one i))
+pub least-more : (r : Record) (k : Kind) (i : ℕ) {least : ℕ} → least ≡ key k (row k i r) + 1 → least ≡ minimumKey k (i + 1) r
+least-more r k i e = e ∙ ap (λ (x : ℕ). minimumKey k x r) (sym (add-one i))
 
 module _ (r : Record) (k : Kind) where
   -- more lines than there is room for

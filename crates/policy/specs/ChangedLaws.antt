@@ -7,6 +7,7 @@ use lib.ListN.{length, replicate, length-map}
 use lib.Seq.{drop-at}
 use lib.Dec.{leb, eqb}
 use borrow.Author.Tests.{le-leb}
+use Rattle.common.specs.Limits.{mostEdges, mostFormulas}
 use Rattle.common.specs.Lists.{at, every, below, table}
 use Rattle.common.specs.ListLaws.{every-all, table-cons}
 use Rattle.common.specs.BoolLaws.{and-cases, and-both}
@@ -35,7 +36,7 @@ zero-all (suc n) = zero-all n
 
 column-zero : (j : ℕ) (es : List (List ℕ)) → zeroFrom (length es) (column j es) ≡ true
 column-zero j es =
-    ap (λ (d : List ℕ). every (λ x. eqb x 0) d) (drop-at (map (λ e. at e j) es) (replicate (512 - length es) 0) (length es) (length-map es (λ e. at e j))) ∙ zero-all (512 - length es)
+    ap (λ (d : List ℕ). every (λ x. eqb x 0) d) (drop-at (map (λ e. at e j) es) (replicate (mostEdges - length es) 0) (length es) (length-map es (λ e. at e j))) ∙ zero-all (mostEdges - length es)
 
 module _ (r : Record) (es : List (List ℕ)) (m : Memo) where
   pub rows-changed : {n least : ℕ} → Rising n least es → rows edge (changed r es m) ≡ es
@@ -51,16 +52,16 @@ module _ (r : Record) (es : List (List ℕ)) (m : Memo) where
   formula-changed : (i : ℕ) → rowRefusal formula i r (row formula i r) ≡ rowRefusal formula i (changed r es m) (row formula i (changed r es m))
   unfolding rowRefusal rowCauses inRange changed
   formula-changed i =
-      λ j. first (causes (leb 64 i)
+      λ j. first (causes (leb mostFormulas i)
       (not (formulaInRange i (at (r .«formula_ops») i) (at (r .«formula_lefts») i) (at (r .«formula_rights») i)
       (heightOf (opOf (at (r .«formula_ops») i)) (at (r .«formula_lefts») i) (at (r .«formula_rights») i) (λ g. height-changed i g j))))
       false)
 
-  module _ (loads : loadable r ≡ true) (rising : Rising (r .objects) 0 es) (few : length es ≤ 512) where
+  module _ (loads : loadable r ≡ true) (rising : Rising (r .objects) 0 es) (few : length es ≤ mostEdges) where
     edge-changed : tableLoads (changed r es m) edge ≡ true
     unfolding tableLoads changed
     edge-changed =
-        and-both _ _ (le-leb (length es) 512 few)
+        and-both _ _ (le-leb (length es) mostEdges few)
         (and-both _ _ (rising-edges (changed r es m) (length es) few (subst⁻¹ (Rising (r .objects) 0) (rows-changed rising) rising))
         (and-both _ _ (column-zero 0 es) (and-both _ _ (column-zero 1 es) (and-both _ _ (column-zero 2 es) refl))))
 

@@ -7,6 +7,7 @@ use native.Mathlib.Omega.{arith}
 use lib.ListN.{length, take, drop, replicate, take-append-drop, length-drop}
 use lib.Dec.{eqb}
 use borrow.Author.Tests.{eqb-true}
+use Rattle.common.specs.Limits.{mostEdges}
 use Rattle.common.specs.Lists.{at, every, table}
 use Rattle.common.specs.ListLaws.{map-table, table-take, length-table}
 use Rattle.common.specs.BoolLaws.{and-cases}
@@ -23,15 +24,15 @@ zeros : (c : List ℕ) → every (λ x. eqb x 0) c ≡ true → c ≡ replicate 
 zeros [] e = refl
 zeros (x ∷ c) e = let p = and-cases (eqb x 0) _ e in λ j. eqb-true x 0 (p .0) j ∷ zeros c (p .1) j
 
--- a column of 512 places, zero from n on, is its first n numbers and zeros
-column-of : (n j : ℕ) (f : ℕ → List ℕ) (c : List ℕ) → ((i : ℕ) → at (f i) j ≡ at c i) → length c ≡ 512 → n ≤ 512 → zeroFrom n c ≡ true → c ≡ column j (table n f)
+-- a column of mostEdges places, zero from n on, is its first n numbers and zeros
+column-of : (n j : ℕ) (f : ℕ → List ℕ) (c : List ℕ) → ((i : ℕ) → at (f i) j ≡ at c i) → length c ≡ mostEdges → n ≤ mostEdges → zeroFrom n c ≡ true → c ≡ column j (table n f)
 column-of n j f c same size few z =
-    let rest : length (drop n c) ≡ 512 - length (table n f) = simp (length-drop, length-table) (omega arith) in
+    let rest : length (drop n c) ≡ mostEdges - length (table n f) = simp (length-drop, length-table) (omega arith) in
     let used : take n c ≡ map (λ e. at e j) (table n f) = sym (map-table (λ e. at e j) n f ∙ (λ k. table n (λ i. same i k)) ∙ table-take n c (omega arith)) in
     sym (take-append-drop n c) ∙ (λ k. used k ++ (zeros (drop n c) z ∙ ap (λ (m : ℕ). replicate m 0) rest) k)
 
 module _ (r : Record) (loads : loadable r ≡ true) where
-  few : r .«edge_count» ≤ 512
+  few : r .«edge_count» ≤ mostEdges
   few = table-few r edge (loadable-table r loads edge)
 
   zero-parts : (zeroFrom (r .«edge_count») (r .«edge_labels») ≡ true) × (zeroFrom (r .«edge_count») (r .«edge_sources») ≡ true) × (zeroFrom (r .«edge_count») (r .«edge_targets») ≡ true)
@@ -40,13 +41,13 @@ module _ (r : Record) (loads : loadable r ≡ true) where
       let q = and-cases (zeroFrom (r .«edge_count») (r .«edge_sources»)) _ (p .1) in
       (p .0, q .0, and-cases (zeroFrom (r .«edge_count») (r .«edge_targets»)) _ (q .1) .0)
 
-  pub labels-column : length (r .«edge_labels») ≡ 512 → r .«edge_labels» ≡ column 0 (rows edge r)
+  pub labels-column : length (r .«edge_labels») ≡ mostEdges → r .«edge_labels» ≡ column 0 (rows edge r)
   labels-column size = column-of (r .«edge_count») 0 _ (r .«edge_labels») (λ i. refl) size few (zero-parts .0)
 
-  pub sources-column : length (r .«edge_sources») ≡ 512 → r .«edge_sources» ≡ column 1 (rows edge r)
+  pub sources-column : length (r .«edge_sources») ≡ mostEdges → r .«edge_sources» ≡ column 1 (rows edge r)
   sources-column size = column-of (r .«edge_count») 1 _ (r .«edge_sources») (λ i. refl) size few (zero-parts .1)
 
-  pub targets-column : length (r .«edge_targets») ≡ 512 → r .«edge_targets» ≡ column 2 (rows edge r)
+  pub targets-column : length (r .«edge_targets») ≡ mostEdges → r .«edge_targets» ≡ column 2 (rows edge r)
   targets-column size = column-of (r .«edge_count») 2 _ (r .«edge_targets») (λ i. refl) size few (zero-parts .2)
 
 -- a loadable record with its own edges again: only the memo is another

@@ -8,6 +8,7 @@ use native.Mathlib.Nat.{le-trans}
 use lib.ListN.{length}
 use lib.Dec.{ltb, leb, eqb}
 use borrow.Author.Tests.{ltb-true, ltb-false, leb-true, eqb-true, le-ltb, lt-leb, eq-eqb}
+use Rattle.common.specs.Limits.{highestLabel, mostEdges, mostObjects}
 use Rattle.common.specs.Lists.{table, same}
 use Rattle.common.specs.ListLaws.{every-more}
 use Rattle.common.specs.BoolLaws.{and-cases, and-both, or-none, or-right}
@@ -15,7 +16,7 @@ use Rattle.common.specs.Causes.{first}
 use Rattle.policy.specs.declared.Record.{Record}
 use Rattle.policy.specs.Table.{edge, row, rows}
 use Rattle.rows.specs.Checks.{edgeInRange, edgeKey, causes}
-use Rattle.policy.specs.Rows.{key, leastKey, inRange, rowCauses, rowRefusal}
+use Rattle.policy.specs.Rows.{key, minimumKey, inRange, rowCauses, rowRefusal}
 use Rattle.policy.specs.Loadable.{rowsLoad, loadable}
 use Rattle.policy.specs.LoadableLaws.{table-rows, loadable-table}
 use Rattle.policy.specs.Edits.{edgeIn, inserted, without}
@@ -31,14 +32,14 @@ rising-from (more l r t) h = more (le-trans h l) r t
 
 -- ---- keys
 
-in-range-parts : (n l x y : ℕ) → edgeInRange n l x y ≡ true → (l ≤ 15) × (x < n) × (y < n)
+in-range-parts : (n l x y : ℕ) → edgeInRange n l x y ≡ true → (l ≤ highestLabel) × (x < n) × (y < n)
 in-range-parts n l x y e =
-    let p = and-cases (leb l 15) _ e in
+    let p = and-cases (leb l highestLabel) _ e in
     let q = and-cases (ltb x n) _ (p .1) in
-    (leb-true l 15 (p .0), ltb-true x n (q .0), ltb-true y n (q .1))
+    (leb-true l highestLabel (p .0), ltb-true x n (q .0), ltb-true y n (q .1))
 
 -- edges with the same key are the same
-pub key-same : (n l x y l₂ x₂ y₂ : ℕ) → n ≤ 255 → edgeInRange n l x y ≡ true → edgeInRange n l₂ x₂ y₂ ≡ true → edgeKey l x y ≡ edgeKey l₂ x₂ y₂ → same (l ∷ x ∷ y ∷ []) (l₂ ∷ x₂ ∷ y₂ ∷ []) ≡ true
+pub key-same : (n l x y l₂ x₂ y₂ : ℕ) → n ≤ mostObjects → edgeInRange n l x y ≡ true → edgeInRange n l₂ x₂ y₂ ≡ true → edgeKey l x y ≡ edgeKey l₂ x₂ y₂ → same (l ∷ x ∷ y ∷ []) (l₂ ∷ x₂ ∷ y₂ ∷ []) ≡ true
 key-same n l x y l₂ x₂ y₂ s e f g =
     let p = in-range-parts n l x y e in
     let q = in-range-parts n l₂ x₂ y₂ f in
@@ -91,7 +92,7 @@ module _ (r : Record) where
   abbrev edges : ℕ → List (List ℕ)
   edges n = table n (λ i. row edge i r)
 
-  after-edges : (n : ℕ) → after 0 (edges n) ≡ leastKey edge n r
+  after-edges : (n : ℕ) → after 0 (edges n) ≡ minimumKey edge n r
   after-edges zero = refl
   after-edges (suc n) = after-end 0 (edges n) (row edge n r)
 
@@ -100,17 +101,17 @@ module _ (r : Record) where
   edges-rising zero e = none
   edges-rising (suc n) e =
       let h = and-cases _ _ (sym (every-more (λ i. eqb (rowRefusal edge i r (row edge i r)) 0) n (λ i. i)) ∙ e) in
-      let p = no-cause (leb 512 n) _ _ (h .1) in
-      rising-end (r .objects) _ _ _ (edges-rising n (h .0)) (omega (arith, after-edges n, ltb-false (key edge (row edge n r)) (leastKey edge n r) (p .2))) (p .1)
+      let p = no-cause (leb mostEdges n) _ _ (h .1) in
+      rising-end (r .objects) _ _ _ (edges-rising n (h .0)) (omega (arith, after-edges n, ltb-false (key edge (row edge n r)) (minimumKey edge n r) (p .2))) (p .1)
 
-  pub rising-edges : (n : ℕ) → n ≤ 512 → Rising (r .objects) 0 (edges n) → rowsLoad r edge n ≡ true
+  pub rising-edges : (n : ℕ) → n ≤ mostEdges → Rising (r .objects) 0 (edges n) → rowsLoad r edge n ≡ true
   unfolding rowRefusal rowCauses inRange
   rising-edges zero s t = refl
   rising-edges (suc n) s t =
       let p = rising-parts (r .objects) _ _ _ (edges n) t in
       every-more (λ i. eqb (rowRefusal edge i r (row edge i r)) 0) n (λ i. i)
       ∙ and-both _ _ (rising-edges n (omega arith) (p .0))
-      (rw (p .2, lt-leb 512 n (omega arith), le-ltb (key edge (row edge n r)) (leastKey edge n r) (omega (arith, after-edges n, p .1))))
+      (rw (p .2, lt-leb mostEdges n (omega arith), le-ltb (key edge (row edge n r)) (minimumKey edge n r) (omega (arith, after-edges n, p .1))))
 
   pub loadable-rising : loadable r ≡ true → Rising (r .objects) 0 (rows edge r)
   loadable-rising e = edges-rising (r .«edge_count») (table-rows r edge (loadable-table r e edge))
@@ -159,7 +160,7 @@ module _ (e : List ℕ) where
         go true p q = rw own p
         go false p q = q
 
-module _ {n : ℕ} (l x y : ℕ) (few : n ≤ 255) (fits : edgeInRange n l x y ≡ true) where
+module _ {n : ℕ} (l x y : ℕ) (few : n ≤ mostObjects) (fits : edgeInRange n l x y ≡ true) where
   pub key-differs : (l₂ x₂ y₂ : ℕ) → edgeInRange n l₂ x₂ y₂ ≡ true → same (l ∷ x ∷ y ∷ []) (l₂ ∷ x₂ ∷ y₂ ∷ []) ≡ false → edgeKey l x y ≡ edgeKey l₂ x₂ y₂ → ⊥
   key-differs l₂ x₂ y₂ s d p = false≢true (sym d ∙ key-same n l x y l₂ x₂ y₂ few fits s p)
 

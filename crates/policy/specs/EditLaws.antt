@@ -6,6 +6,7 @@ use mathlib.Core.List.{List, [], _∷_}
 use native.Mathlib.Omega.{arith}
 use lib.Dec.{leb, eqb}
 use borrow.Author.Tests.{leb-false, lt-leb, eqb-true, eq-eqb, not-false}
+use Rattle.common.specs.Limits.{mostEdges}
 use Rattle.common.specs.Lists.{same}
 use Rattle.common.specs.ListLaws.{length-table}
 use Rattle.policy.specs.declared.Record.{Record}
@@ -26,10 +27,11 @@ no-first : (k : ℕ) (b : Bool) (m : ℕ) → cond b (suc k) m ≡ 0 → (b ≡ 
 no-first k true m e = let z : ⊥ = omega arith in absurd z
 no-first k false m e = (refl, e)
 
-edited-accepted : (r : Record) (n : ℕ) (es : List (List ℕ)) → edited r n es .number ≡ 0 → n ≡ 0
-edited-accepted r n es e = go (eqb n 0) refl e
+edited-accepted : (r : Record) (n : ℕ) (es : List (List ℕ)) (m : Memo) → edited r n es m .number ≡ 0 → n ≡ 0
+edited-accepted r n es m e = go (eqb n 0) refl e
   where
-    go : (b : Bool) → eqb n 0 ≡ b → (cond {A = Edited} b (record { number = 0; rules = changed r es (emptied 0 0) }) (record { number = n; rules = r })) .number ≡ 0 → n ≡ 0
+    go : (b : Bool) → eqb n 0 ≡ b
+        → (cond {A = Edited} b (record { number = 0; rules = changed r es m }) (record { number = n; rules = r })) .number ≡ 0 → n ≡ 0
     go true f e = eqb-true n 0 f
     go false f e = e
 
@@ -44,7 +46,7 @@ module _ (r : Record) (l x y : ℕ) where
     pub loads : loadable r ≡ true
     pub fits : edgeInRange (r .objects) l x y ≡ true
     pub absent : edgeIn (rows edge r) (l ∷ x ∷ y ∷ []) ≡ false
-    pub room : r .«edge_count» < 512
+    pub room : r .«edge_count» < mostEdges
 
   pub record Removes : Type 0 where
     pub loads : loadable r ≡ true
@@ -53,7 +55,7 @@ module _ (r : Record) (l x y : ℕ) where
 
   pub added-when : Adds → added r l x y ≡ record { number = 0; rules = changed r (inserted (l ∷ x ∷ y ∷ []) (rows edge r)) (emptied 0 0) }
   unfolding added
-  added-when a = rw (a .loads, a .fits, a .absent, lt-leb 512 (r .«edge_count») (a .room))
+  added-when a = rw (a .loads, a .fits, a .absent, lt-leb mostEdges (r .«edge_count») (a .room))
 
   pub removed-when : Removes → removed r l x y ≡ record { number = 0; rules = changed r (without (l ∷ x ∷ y ∷ []) (rows edge r)) (emptied 0 0) }
   unfolding removed
@@ -62,16 +64,16 @@ module _ (r : Record) (l x y : ℕ) where
   pub adds : added r l x y .number ≡ 0 → Adds
   unfolding added
   adds e =
-      let a = no-first 18 (not (loadable r)) _ (edited-accepted r (addRefusal r l x y) _ e) in
+      let a = no-first 18 (not (loadable r)) _ (edited-accepted r (addRefusal r l x y) _ _ e) in
       let b = no-first 9 (not (edgeInRange (r .objects) l x y)) _ (a .1) in
       let c = no-first 10 (edgeIn (rows edge r) (l ∷ x ∷ y ∷ [])) _ (b .1) in
-      let d = no-first 12 (leb 512 (r .«edge_count»)) _ (c .1) in
-      record { loads = not-false _ (a .0); fits = not-false _ (b .0); absent = c .0; room = leb-false 512 (r .«edge_count») (d .0) }
+      let d = no-first 12 (leb mostEdges (r .«edge_count»)) _ (c .1) in
+      record { loads = not-false _ (a .0); fits = not-false _ (b .0); absent = c .0; room = leb-false mostEdges (r .«edge_count») (d .0) }
 
   pub removes : removed r l x y .number ≡ 0 → Removes
   unfolding removed
   removes e =
-      let a = no-first 18 (not (loadable r)) _ (edited-accepted r (removeRefusal r l x y) _ e) in
+      let a = no-first 18 (not (loadable r)) _ (edited-accepted r (removeRefusal r l x y) _ _ e) in
       let b = no-first 9 (not (edgeInRange (r .objects) l x y)) _ (a .1) in
       let c = no-first 11 (not (edgeIn (rows edge r) (l ∷ x ∷ y ∷ []))) _ (b .1) in
       record { loads = not-false _ (a .0); fits = not-false _ (b .0); present = not-false _ (c .0) }

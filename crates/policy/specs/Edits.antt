@@ -3,10 +3,12 @@ use mathlib.Core.Bool.{Bool, not, cond}
 use mathlib.Core.List.{List, [], _∷_}
 use Prim.Native.Nat.{ℕ}
 use lib.Dec.{ltb, leb, eqb}
+use Rattle.common.specs.Limits.{mostEdges}
 use Rattle.common.specs.Lists.{any, those, same}
 use Rattle.common.specs.Causes.{cause, first}
 use Rattle.common.specs.Refusals.{edgeOutOfRange, edgePresent, edgeAbsent, edgesFull, notLoadable}
 use Rattle.policy.specs.declared.Record.{Record}
+use Rattle.policy.specs.declared.Memo.{Memo}
 use Rattle.policy.specs.declared.Edited.{Edited}
 use Rattle.policy.specs.Table.{edge, rows, emptied, changed}
 use Rattle.rows.specs.Checks.{edgeInRange}
@@ -26,9 +28,13 @@ inserted e (x ∷ es) = cond (ltb (key edge e) (key edge x)) (e ∷ x ∷ es) (x
 abbrev pub without : List ℕ → List (List ℕ) → List (List ℕ)
 without e es = those (λ x. not (same e x)) es
 
--- a refused edit leaves the record; an accepted one has the new edges and an emptied memo with the pair (0, 0)
-abbrev pub edited : Record → ℕ → List (List ℕ) → Edited
-edited r n es = cond (eqb n 0) (record { number = 0; rules = changed r es (emptied 0 0) }) (record { number = n; rules = r })
+-- "each empties the memo (pair (0, 0))": the memo that an accepted edit of an edge with this label leaves
+abbrev pub memoLeft : Record → ℕ → Memo
+memoLeft r label = emptied 0 0
+
+-- a refused edit leaves the record; an accepted one has the new edges and the memo
+abbrev pub edited : Record → ℕ → List (List ℕ) → Memo → Edited
+edited r n es m = cond (eqb n 0) (record { number = 0; rules = changed r es m }) (record { number = n; rules = r })
 
 -- 19, then 10, 11, 13
 abbrev pub addRefusal : Record → ℕ → ℕ → ℕ → ℕ
@@ -37,7 +43,7 @@ addRefusal r l x y =
     (cause notLoadable (not (loadable r))
     ∷ cause edgeOutOfRange (not (edgeInRange (r .objects) l x y))
     ∷ cause edgePresent (edgeIn (rows edge r) (l ∷ x ∷ y ∷ []))
-    ∷ cause edgesFull (leb 512 (r .«edge_count»))
+    ∷ cause edgesFull (leb mostEdges (r .«edge_count»))
     ∷ [])
 
 -- 19, then 10, 12
@@ -50,7 +56,7 @@ removeRefusal r l x y =
     ∷ [])
 
 unfoldable pub added : Record → ℕ → ℕ → ℕ → Edited
-added r l x y = edited r (addRefusal r l x y) (inserted (l ∷ x ∷ y ∷ []) (rows edge r))
+added r l x y = edited r (addRefusal r l x y) (inserted (l ∷ x ∷ y ∷ []) (rows edge r)) (memoLeft r l)
 
 unfoldable pub removed : Record → ℕ → ℕ → ℕ → Edited
-removed r l x y = edited r (removeRefusal r l x y) (without (l ∷ x ∷ y ∷ []) (rows edge r))
+removed r l x y = edited r (removeRefusal r l x y) (without (l ∷ x ∷ y ∷ []) (rows edge r)) (memoLeft r l)

@@ -7,6 +7,7 @@ use native.Mathlib.Omega.{arith}
 use native.Mathlib.Decide.{decLt}
 use lib.Dec.{leb, eqb}
 use borrow.Author.Tests.{ne-eqb, not-false, leb-true}
+use Rattle.common.specs.Limits.{mostObjects}
 use Rattle.common.specs.Lists.{at}
 use Rattle.common.specs.BoolLaws.{and-cases}
 use Rattle.policy.specs.declared.Record.{Record}
@@ -69,9 +70,9 @@ module _ (v : List ℕ) (passes : rowRefusal head 1 blank v ≡ 0) where
   head-loads : tableLoads (appended head blank v) head ≡ true
   unfolding rowRefusal rowCauses inRange appended
   head-loads =
-      let range = not-false (eqb (at v 0) 1 && (leb 1 (at v 1) && leb (at v 1) 255)) (passed false (not (eqb (at v 0) 1 && (leb 1 (at v 1) && leb (at v 1) 255))) false passes .1) in
+      let range = not-false (eqb (at v 0) 1 && (leb 1 (at v 1) && leb (at v 1) mostObjects)) (passed false (not (eqb (at v 0) 1 && (leb 1 (at v 1) && leb (at v 1) mostObjects))) false passes .1) in
       let p = and-cases (leb 1 (at v 1)) _ (and-cases (eqb (at v 0) 1) _ range .1) in
-      head-some (appended head blank v) (leb-true 1 (at v 1) (p .0)) (leb-true (at v 1) 255 (p .1))
+      head-some (appended head blank v) (leb-true 1 (at v 1) (p .0)) (leb-true (at v 1) mostObjects (p .1))
 
   pub tables-first : (j : Kind) → tableLoads (appended head blank v) j ≡ true
   tables-first j = go (decLt 1 (code j))

@@ -10,6 +10,7 @@ use lib.ListN.{length, set, replicate, length-set}
 use lib.Seq.{getD-set-same, getD-set-other}
 use lib.Dec.{eqb}
 use borrow.Author.Tests.{eq-eqb, ne-eqb}
+use Rattle.common.specs.Limits.{mostFormulas}
 use Rattle.common.specs.Lists.{at}
 use Rattle.policy.specs.declared.Record.{Record}
 use Rattle.policy.specs.Table.{formula, count, appended}
@@ -19,12 +20,12 @@ use Rattle.policy.specs.TableLaws.{Sized, height-kept}
 
 -- the heights of the formulas below i
 pub record Heights (r : Record) (heights : List ℕ) (i : ℕ) : Type 0 where
-  pub size : length heights ≡ 64
+  pub size : length heights ≡ mostFormulas
   pub each : (g : ℕ) → at heights g ≡ height r i g
 
-pub heights-none : (r : Record) → Heights r (replicate 64 0) 0
+pub heights-none : (r : Record) → Heights r (replicate mostFormulas 0) 0
 unfolding height
-heights-none r = record { size = refl; each = λ g. zero-at 64 g }
+heights-none r = record { size = refl; each = λ g. zero-at mostFormulas g }
   where
     zero-at : (n g : ℕ) → at (replicate n 0) g ≡ 0
     zero-at zero g = refl
@@ -39,7 +40,7 @@ height-most Op.role a b n part h = omega arith
 height-most Op.negation a b n part h = omega (arith, h a)
 height-most Op.conjunction a b n part h = omega (arith, h a, h b)
 height-most Op.disjunction a b n part h = omega (arith, h a, h b)
-height-most Op.onward a b n part h = omega (arith, h b)
+height-most Op.forward a b n part h = omega (arith, h b)
 height-most Op.backward a b n part h = omega (arith, h b)
 height-most Op.unknown a b n part h = omega arith
 
@@ -55,14 +56,14 @@ height-le r (suc n) g = go (eqb g n) (height-le r n)
     go false h = omega (arith, h g)
 
 module _ {r : Record} {heights : List ℕ} {i : ℕ} (h : Heights r heights i) where
-  pub heights-low : i ≤ 64 → (g : ℕ) → at heights g < 255
+  pub heights-low : i ≤ mostFormulas → (g : ℕ) → at heights g < 255
   heights-low l g = omega (arith, h .each g, height-le r i g)
 
   -- the height of the formula at i, from the heights below it
   pub height-here : {x : ℕ} (op a b : ℕ) → x ≡ heightOf (opOf op) a b (at heights) → x ≡ heightOf (opOf op) a b (height r i)
   height-here op a b e = e ∙ (λ j. heightOf (opOf op) a b (λ g. h .each g j))
 
-  pub heights-more : {x : ℕ} → i < 64 → x ≡ heightOf (opOf (at (r .«formula_ops») i)) (at (r .«formula_lefts») i) (at (r .«formula_rights») i) (height r i) → Heights r (set heights i x) (i + 1)
+  pub heights-more : {x : ℕ} → i < mostFormulas → x ≡ heightOf (opOf (at (r .«formula_ops») i)) (at (r .«formula_lefts») i) (at (r .«formula_rights») i) (height r i) → Heights r (set heights i x) (i + 1)
   unfolding height
   heights-more {x} l e =
       record { size = length-set heights i x ∙ h .size; each = λ g. go g (ℕ-discrete g i) ∙ ap (λ (n : ℕ). height r n g) (sym (add-one i)) }
@@ -76,10 +77,10 @@ module _ {r : Record} {heights : List ℕ} {i : ℕ} (h : Heights r heights i) w
 
 -- ---- a record that gets a formula more
 
-pub heights-start : (r : Record) → count formula r ≡ 0 → Heights r (replicate 64 0) (count formula r)
-heights-start r e = subst (Heights r (replicate 64 0)) (sym e) (heights-none r)
+pub heights-start : (r : Record) → count formula r ≡ 0 → Heights r (replicate mostFormulas 0) (count formula r)
+heights-start r e = subst (Heights r (replicate mostFormulas 0)) (sym e) (heights-none r)
 
-pub heights-appended : {r : Record} {heights : List ℕ} (op a b : ℕ) {x : ℕ} → Sized r → count formula r < 64 → Heights r heights (count formula r)
+pub heights-appended : {r : Record} {heights : List ℕ} (op a b : ℕ) {x : ℕ} → Sized r → count formula r < mostFormulas → Heights r heights (count formula r)
     → x ≡ heightOf (opOf op) a b (at heights) → Heights (appended formula r (op ∷ a ∷ b ∷ [])) (set heights (count formula r) x) (count formula r + 1)
 unfolding appended
 heights-appended {r} {heights} op a b {x} s few h e =

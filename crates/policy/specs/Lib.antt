@@ -3,7 +3,7 @@ pub mod Height
 pub mod Rows
 pub mod Loadable
 pub mod Edits
-pub mod Places
+pub mod EdgeRows
 pub mod RowLaws
 pub mod LoadableLaws
 pub mod RoomLaws

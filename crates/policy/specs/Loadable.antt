@@ -4,6 +4,7 @@ use mathlib.Core.Bool.{Bool, false, not, _&&_}
 use mathlib.Core.List.{List, [], _∷_}
 use lib.ListN.{drop}
 use lib.Dec.{ltb, leb, eqb}
+use Rattle.common.specs.Limits.{mostPairs}
 use Rattle.common.specs.Lists.{at, every, below}
 use Rattle.common.specs.Causes.{first}
 use Rattle.closure.specs.Closure.{circular}
@@ -25,15 +26,15 @@ unfoldable pub tableLoads : Record → Kind → Bool
 tableLoads r k = leb (count k r) (room k) && (rowsLoad r k (count k r) && every (zeroFrom (count k r)) (columns k r))
 
 -- the same of a table of pairs of so many things, by its columns: the hierarchy's and the prerequisites' are such tables (`LoadableLaws`)
-abbrev pub leastPair : ℕ → List ℕ → List ℕ → ℕ
-leastPair zero a b = 0
-leastPair (suc i) a b = pairKey (at a i) (at b i) + 1
+abbrev pub minimumPairKey : ℕ → List ℕ → List ℕ → ℕ
+minimumPairKey zero a b = 0
+minimumPairKey (suc i) a b = pairKey (at a i) (at b i) + 1
 
 abbrev pub pairRefusal : ℕ → List ℕ → List ℕ → ℕ → ℕ
-pairRefusal things a b i = first (causes false (not (pairInRange things (at a i) (at b i))) (ltb (pairKey (at a i) (at b i)) (leastPair i a b)))
+pairRefusal things a b i = first (causes false (not (pairInRange things (at a i) (at b i))) (ltb (pairKey (at a i) (at b i)) (minimumPairKey i a b)))
 
 unfoldable pub pairsLoad : ℕ → ℕ → List ℕ → List ℕ → Bool
-pairsLoad things n a b = leb n 380 && (every (λ i. eqb (pairRefusal things a b i) 0) (below n) && every (zeroFrom n) (a ∷ b ∷ []))
+pairsLoad things n a b = leb n mostPairs && (every (λ i. eqb (pairRefusal things a b i) 0) (below n) && every (zeroFrom n) (a ∷ b ∷ []))
 
 -- every table loads, and neither the hierarchy nor the prerequisites hold a circle
 unfoldable pub loadable : Record → Bool

@@ -8,6 +8,7 @@ use native.Mathlib.Omega.{arith}
 use lib.ListN.{getD}
 use lib.Dec.{ltb, leb, eqb}
 use borrow.Author.Tests.{ltb-true, leb-true, le-leb, eqb-false, not-true}
+use Rattle.common.specs.Limits.{mostObjects, mostPairs}
 use Rattle.common.specs.Lists.{at, every, below}
 use Rattle.common.specs.ListLaws.{every-more, every-at}
 use Rattle.common.specs.BoolLaws.{and-cases, and-true, and-false}
@@ -18,13 +19,13 @@ use Rattle.policy.specs.declared.Record.{Record}
 use Rattle.policy.specs.Table.{Kind, head, user, edge, formula, demarcation, hierarchy, principal, exclusion, prerequisite, method, end, kinds, count, columns, room, row, rows}
 use Rattle.rows.specs.Checks.{causes, pairInRange, pairKey}
 use Rattle.policy.specs.Rows.{inRange, rowCauses, rowRefusal}
-use Rattle.policy.specs.Loadable.{rowsLoad, zeroFrom, leastPair, pairRefusal, pairsLoad, tableLoads, loadable}
+use Rattle.policy.specs.Loadable.{rowsLoad, zeroFrom, minimumPairKey, pairRefusal, pairsLoad, tableLoads, loadable}
 
 module _ (r : Record) where
   pub hierarchy-pairs : pairsLoad (r .«demarcation_count») (r .«hierarchy_count») (r .inferiors) (r .superiors) ≡ tableLoads r hierarchy
   unfolding pairsLoad tableLoads rowRefusal rowCauses inRange
   hierarchy-pairs =
-      λ j. leb (r .«hierarchy_count») 380
+      λ j. leb (r .«hierarchy_count») mostPairs
       && (every (λ i. eqb (same-row i j) 0) (below (r .«hierarchy_count»)) && every (zeroFrom (r .«hierarchy_count»)) (r .inferiors ∷ r .superiors ∷ []))
     where
       same-row : (i : ℕ) → pairRefusal (r .«demarcation_count») (r .inferiors) (r .superiors) i ≡ rowRefusal hierarchy i r (row hierarchy i r)
@@ -34,7 +35,7 @@ module _ (r : Record) where
   pub prerequisite-pairs : pairsLoad (r .«principal_count») (r .«prerequisite_count») (r .prerequisites) (r .dependents) ≡ tableLoads r prerequisite
   unfolding pairsLoad tableLoads rowRefusal rowCauses inRange
   prerequisite-pairs =
-      λ j. leb (r .«prerequisite_count») 380
+      λ j. leb (r .«prerequisite_count») mostPairs
       && (every (λ i. eqb (same-row i j) 0) (below (r .«prerequisite_count»)) && every (zeroFrom (r .«prerequisite_count»)) (r .prerequisites ∷ r .dependents ∷ []))
     where
       same-row : (i : ℕ) → pairRefusal (r .«principal_count») (r .prerequisites) (r .dependents) i ≡ rowRefusal prerequisite i r (row prerequisite i r)
@@ -51,7 +52,7 @@ pairs-in-range : (things n : ℕ) (a b : List ℕ) → every (λ i. eqb (pairRef
 pairs-in-range things zero a b e i j l = absurd l
 pairs-in-range things (suc n) a b e i j l =
     let h = and-cases _ _ (sym (every-more (λ x. eqb (pairRefusal things a b x) 0) n (λ x. x)) ∙ e) in
-    let p = in-range (pairInRange things (at a n) (at b n)) (ltb (pairKey (at a n) (at b n)) (leastPair n a b)) (h .1) in
+    let p = in-range (pairInRange things (at a n) (at b n)) (ltb (pairKey (at a n) (at b n)) (minimumPairKey n a b)) (h .1) in
     ⊎-elim
     (λ m. pairs-in-range things n a b (h .0) i j m)
     (λ m. ⊎-elim (λ s. subst₂ (λ (x y : ℕ). pairInRange things x y ≡ true) (s .0) (s .1) p) (λ z. absurd z) m)
@@ -60,11 +61,11 @@ pairs-in-range things (suc n) a b e i j l =
 module _ (things n : ℕ) (a b : List ℕ) (loads : pairsLoad things n a b ≡ true) where
   all-rows : every (λ i. eqb (pairRefusal things a b i) 0) (below n) ≡ true
   unfolding pairsLoad
-  all-rows = and-cases _ _ (and-cases (leb n 380) _ loads .1) .0
+  all-rows = and-cases _ _ (and-cases (leb n mostPairs) _ loads .1) .0
 
-  pub pairs-few : n ≤ 380
+  pub pairs-few : n ≤ mostPairs
   unfolding pairsLoad
-  pairs-few = leb-true n 380 (and-cases (leb n 380) _ loads .0)
+  pairs-few = leb-true n mostPairs (and-cases (leb n mostPairs) _ loads .0)
 
   pub pairs-named : (i j : ℕ) → Listed (pairsOf n a b) i j → (i < things) × (j < things)
   pairs-named i j l =
@@ -116,9 +117,9 @@ module _ (r : Record) where
   unfolding tableLoads
   end-loads = refl
 
-  pub head-some : 1 ≤ r .objects → r .objects ≤ 255 → tableLoads r head ≡ true
+  pub head-some : 1 ≤ r .objects → r .objects ≤ mostObjects → tableLoads r head ≡ true
   unfolding tableLoads rowRefusal rowCauses inRange
-  head-some l h = rw (le-leb 1 (r .objects) l, le-leb (r .objects) 255 h)
+  head-some l h = rw (le-leb 1 (r .objects) l, le-leb (r .objects) mostObjects h)
 
   pub loadable-no-objects : r .objects ≡ 0 → false ≡ loadable r
   loadable-no-objects e = sym (loadable-parts r ∙ rw (head-none e))
@@ -130,7 +131,7 @@ module _ (r : Record) where
   loadable-no-grounds e = sym (loadable-parts r ∙ rw (e, and-false (graphLoads r), and-false (tableLoads r head)))
 
   -- every kind's table
-  pub all-load : 1 ≤ r .objects → r .objects ≤ 255 → graphLoads r ≡ true → groundsLoad r ≡ true → (j : Kind) → tableLoads r j ≡ true
+  pub all-load : 1 ≤ r .objects → r .objects ≤ mostObjects → graphLoads r ≡ true → groundsLoad r ≡ true → (j : Kind) → tableLoads r j ≡ true
   all-load l h e f = each
     where
       g : (tableLoads r edge && (tableLoads r formula && tableLoads r demarcation)) ≡ true
@@ -161,15 +162,15 @@ module _ (r : Record) where
       each method = and-cases (tableLoads r prerequisite) _ s .1
       each end = end-loads
 
-  pub loadable-all : 1 ≤ r .objects → r .objects ≤ 255 → graphLoads r ≡ true → groundsLoad r ≡ true → noCircles r ≡ loadable r
+  pub loadable-all : 1 ≤ r .objects → r .objects ≤ mostObjects → graphLoads r ≡ true → groundsLoad r ≡ true → noCircles r ≡ loadable r
   loadable-all l h e f = sym (loadable-parts r ∙ rw (e, f, head-some l h))
 
 -- the head's table says that there are 1 to 255 objects
-pub head-range : (r : Record) → tableLoads r head ≡ true → (1 ≤ r .objects) × (r .objects ≤ 255)
+pub head-range : (r : Record) → tableLoads r head ≡ true → (1 ≤ r .objects) × (r .objects ≤ mostObjects)
 unfolding tableLoads rowRefusal rowCauses inRange
 head-range r e =
-    let p = and-cases (leb 1 (r .objects)) (leb (r .objects) 255) (in-range (leb 1 (r .objects) && leb (r .objects) 255) false (and-cases _ true (and-cases _ true e .0) .0)) in
-    (leb-true 1 (r .objects) (p .0), leb-true (r .objects) 255 (p .1))
+    let p = and-cases (leb 1 (r .objects)) (leb (r .objects) mostObjects) (in-range (leb 1 (r .objects) && leb (r .objects) mostObjects) false (and-cases _ true (and-cases _ true e .0) .0)) in
+    (leb-true 1 (r .objects) (p .0), leb-true (r .objects) mostObjects (p .1))
 
 -- a table that loads has no more lines than there is room for
 pub table-few : (r : Record) (k : Kind) → tableLoads r k ≡ true → count k r ≤ room k
@@ -213,5 +214,5 @@ loadable-table r e k = go k
     go end = end-loads r
 
 -- and there are at most 255 objects
-pub loadable-objects : (r : Record) → loadable r ≡ true → r .objects ≤ 255
+pub loadable-objects : (r : Record) → loadable r ≡ true → r .objects ≤ mostObjects
 loadable-objects r e = head-range r (loadable-table r e head) .1

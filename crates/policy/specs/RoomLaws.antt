@@ -10,6 +10,7 @@ use native.Mathlib.Decide.{decLt}
 use native.Mathlib.Numerals.{add-one}
 use lib.Dec.{ltb, eqb}
 use borrow.Author.Tests.{ltb-true, ltb-false, eqb-false, not-true, not-false, eqb-true}
+use Rattle.common.specs.Limits.{mostExclusions, mostObjects, mostPairs, mostPrincipals, mostUsers}
 use Rattle.common.specs.BoolLaws.{and-cases}
 use Rattle.common.specs.Causes.{first}
 use Rattle.common.specs.Lists.{at}
@@ -17,7 +18,7 @@ use Rattle.common.specs.ListLaws.{every-more}
 use Rattle.policy.specs.declared.Record.{Record}
 use Rattle.policy.specs.Table.{Kind, head, user, edge, formula, demarcation, hierarchy, principal, exclusion, prerequisite, method, end, code, count, room, row}
 use Rattle.rows.specs.Checks.{causes, pairInRange, pairKey}
-use Rattle.policy.specs.Rows.{inRange, leastKey, rowCauses, rowRefusal}
+use Rattle.policy.specs.Rows.{inRange, minimumKey, rowCauses, rowRefusal}
 use Rattle.policy.specs.Loadable.{rowsLoad, tableLoads}
 use Rattle.policy.specs.LoadableLaws.{head-range, table-few, table-rows}
 use Rattle.policy.specs.RowLaws.{passed, row-limit}
@@ -34,7 +35,7 @@ module _ {least n : ℕ} (u : UserRoom least n) (objects o : ℕ) (e : first (ca
   user-order : n ≤ o
   user-order = let l = ltb-false o least (passed false (not (ltb o objects)) (ltb o least) e .2) in let m = u .most in omega arith
 
-  pub user-room : objects ≤ 255 → n < 255
+  pub user-room : objects ≤ mostObjects → n < mostUsers
   user-room h = let l = ltb-true o objects (not-false (ltb o objects) (passed false (not (ltb o objects)) (ltb o least) e .1)) in let m = user-order in omega arith
 
   pub user-more : {m after : ℕ} → after ≡ o + 1 → m ≡ n + 1 → UserRoom after m
@@ -43,8 +44,8 @@ module _ {least n : ℕ} (u : UserRoom least n) (objects o : ℕ) (e : first (ca
 -- ---- pairs of different things below 20, as pairs rise: so many before (a, b)
 
 pub record PairRoom (least n : ℕ) : Type 0 where
-  pub down : (a b : ℕ) → a < 20 → b < a → least ≤ pairKey a b → n ≤ 19 * a + b
-  pub up : (a b : ℕ) → b < 20 → a < b → least ≤ pairKey a b → n + 1 ≤ 19 * a + b
+  pub down : (a b : ℕ) → a < mostPrincipals → b < a → least ≤ pairKey a b → n ≤ 19 * a + b
+  pub up : (a b : ℕ) → b < mostPrincipals → a < b → least ≤ pairKey a b → n + 1 ≤ 19 * a + b
 
 pub pair-none : (n : ℕ) → n ≡ 0 → PairRoom 0 n
 pair-none n e = record { down = λ a b l h k. omega arith; up = λ a b l h k. omega arith }
@@ -53,14 +54,14 @@ other-side : (a b : ℕ) → a ≢ b → Dec (a < b) → (a < b) ⊎ (b < a)
 other-side a b h (yes l) = inl l
 other-side a b h (no k) = inr (omega arith)
 
-module _ {least n : ℕ} (u : PairRoom least n) (things a b : ℕ) (few : things ≤ 20) (e : first (causes false (not (pairInRange things a b)) (ltb (pairKey a b) least)) ≡ 0) where
+module _ {least n : ℕ} (u : PairRoom least n) (things a b : ℕ) (few : things ≤ mostPrincipals) (e : first (causes false (not (pairInRange things a b)) (ltb (pairKey a b) least)) ≡ 0) where
   in-range : pairInRange things a b ≡ true
   in-range = not-false (pairInRange things a b) (passed false (not (pairInRange things a b)) (ltb (pairKey a b) least) e .1)
 
-  low : a < 20
+  low : a < mostPrincipals
   low = let l = ltb-true a things (and-cases (ltb a things) _ in-range .0) in omega arith
 
-  high : b < 20
+  high : b < mostPrincipals
   high = let l = ltb-true b things (and-cases (ltb b things) _ (and-cases (ltb a things) _ in-range .1) .0) in omega arith
 
   sides : (a < b) ⊎ (b < a)
@@ -69,7 +70,7 @@ module _ {least n : ℕ} (u : PairRoom least n) (things a b : ℕ) (few : things
   order : least ≤ pairKey a b
   order = ltb-false (pairKey a b) least (passed false (not (pairInRange things a b)) (ltb (pairKey a b) least) e .2)
 
-  pub pair-room : n < 380
+  pub pair-room : n < mostPairs
   pair-room = let h = low in let k = high in ⊎-elim (λ l. omega (arith, u .up a b k l order)) (λ l. omega (arith, u .down a b h l order)) sides
 
   pub pair-more : {m after : ℕ} → after ≡ pairKey a b + 1 → m ≡ n + 1 → PairRoom after m
@@ -96,17 +97,17 @@ before-rises : (a b : ℕ) → a ≤ b → before a ≤ before b
 before-rises a b l = let e : (b - a) + a ≡ b = omega arith in subst (λ (n : ℕ). before a ≤ before n) e (before-adds a (b - a))
 
 pub record ExclusionRoom (least n : ℕ) : Type 0 where
-  pub up : (a b : ℕ) → b < 20 → a < b → least ≤ pairKey a b → n + (a + 1) ≤ before a + b
+  pub up : (a b : ℕ) → b < mostPrincipals → a < b → least ≤ pairKey a b → n + (a + 1) ≤ before a + b
 
 pub exclusion-none : (n : ℕ) → n ≡ 0 → ExclusionRoom 0 n
 exclusion-none n e = record { up = λ a b l h k. omega arith }
 
-module _ {least n : ℕ} (u : ExclusionRoom least n) (things a b : ℕ) (few : things ≤ 20)
+module _ {least n : ℕ} (u : ExclusionRoom least n) (things a b : ℕ) (few : things ≤ mostPrincipals)
     (e : first (causes false (not (ltb a b && ltb b things)) (ltb (pairKey a b) least)) ≡ 0) where
   rises : a < b
   rises = ltb-true a b (and-cases (ltb a b) _ (not-false (ltb a b && ltb b things) (passed false (not (ltb a b && ltb b things)) (ltb (pairKey a b) least) e .1)) .0)
 
-  below : b < 20
+  below : b < mostPrincipals
   below =
       let l = ltb-true b things (and-cases (ltb a b) _ (not-false (ltb a b && ltb b things) (passed false (not (ltb a b && ltb b things)) (ltb (pairKey a b) least) e .1)) .1) in
       omega arith
@@ -123,13 +124,13 @@ module _ {least n : ℕ} (u : ExclusionRoom least n) (things a b : ℕ) (few : t
       let h = rises in
       omega arith
 
-  pub exclusion-room : n < 190
+  pub exclusion-room : n < mostExclusions
   exclusion-room = let r = next-lower 19 (let k = below in let h = rises in omega arith) in omega arith
 
   pub exclusion-more : {m after : ℕ} → after ≡ pairKey a b + 1 → m ≡ n + 1 → ExclusionRoom after m
   exclusion-more {m} {after} g f = record { up = λ x y ly lx z. go x y ly lx z (decLt a x) }
     where
-      go : (x y : ℕ) → y < 20 → x < y → after ≤ pairKey x y → Dec (a < x) → m + (x + 1) ≤ before x + y
+      go : (x y : ℕ) → y < mostPrincipals → x < y → after ≤ pairKey x y → Dec (a < x) → m + (x + 1) ≤ before x + y
       go x y ly lx z (yes l) = let r = next-lower x l in omega arith
       go x y ly lx z (no h) =
           let k = below in
@@ -144,27 +145,27 @@ row-passes k r n e =
     let p = and-cases (rowsLoad r k n) _ (sym (every-more (λ i. eqb (rowRefusal k i r (row k i r)) 0) n (λ i. i)) ∙ e) in
     (p .0, eqb-true (rowRefusal k n r (row k n r)) 0 (p .1))
 
-user-rows : (r : Record) (n : ℕ) → rowsLoad r user n ≡ true → UserRoom (leastKey user n r) n
+user-rows : (r : Record) (n : ℕ) → rowsLoad r user n ≡ true → UserRoom (minimumKey user n r) n
 unfolding rowRefusal rowCauses inRange
 user-rows r zero e = user-none 0 refl
 user-rows r (suc n) e = let p = row-passes user r n e in user-more (user-rows r n (p .0)) (r .objects) (at (r .«user_objects») n) (p .1) refl (sym (add-one n))
 
 module _ (r : Record) where
-  hierarchy-rows : r .«demarcation_count» ≤ 20 → (n : ℕ) → rowsLoad r hierarchy n ≡ true → PairRoom (leastKey hierarchy n r) n
+  hierarchy-rows : r .«demarcation_count» ≤ mostPrincipals → (n : ℕ) → rowsLoad r hierarchy n ≡ true → PairRoom (minimumKey hierarchy n r) n
   unfolding rowRefusal rowCauses inRange
   hierarchy-rows few zero e = pair-none 0 refl
   hierarchy-rows few (suc n) e =
       let p = row-passes hierarchy r n e in
       pair-more (hierarchy-rows few n (p .0)) (r .«demarcation_count») (at (r .inferiors) n) (at (r .superiors) n) few (p .1) refl (sym (add-one n))
 
-  prerequisite-rows : r .«principal_count» ≤ 20 → (n : ℕ) → rowsLoad r prerequisite n ≡ true → PairRoom (leastKey prerequisite n r) n
+  prerequisite-rows : r .«principal_count» ≤ mostPrincipals → (n : ℕ) → rowsLoad r prerequisite n ≡ true → PairRoom (minimumKey prerequisite n r) n
   unfolding rowRefusal rowCauses inRange
   prerequisite-rows few zero e = pair-none 0 refl
   prerequisite-rows few (suc n) e =
       let p = row-passes prerequisite r n e in
       pair-more (prerequisite-rows few n (p .0)) (r .«principal_count») (at (r .prerequisites) n) (at (r .dependents) n) few (p .1) refl (sym (add-one n))
 
-  exclusion-rows : r .«principal_count» ≤ 20 → (n : ℕ) → rowsLoad r exclusion n ≡ true → ExclusionRoom (leastKey exclusion n r) n
+  exclusion-rows : r .«principal_count» ≤ mostPrincipals → (n : ℕ) → rowsLoad r exclusion n ≡ true → ExclusionRoom (minimumKey exclusion n r) n
   unfolding rowRefusal rowCauses inRange
   exclusion-rows few zero e = exclusion-none 0 refl
   exclusion-rows few (suc n) e =

@@ -1,10 +1,11 @@
 -- What each line of a kind's table is held to: the one check that loading and `loadable` share (refusals 5, 6 and 7).
--- The numbers v are the line at place i of kind k's table. What they are held to stands in the tables before it and in the lines above it.
+-- The numbers v are the line at row i of kind k's table. What they are held to stands in the tables before it and in the lines above it.
 -- Loading has i at the count, the first unused place; `loadable` goes through every i below the count.
 use Prim.Native.Nat.{ℕ, zero, suc, _+_}
 use mathlib.Core.Bool.{Bool, true, false, not, _&&_}
 use mathlib.Core.List.{List}
 use lib.Dec.{ltb, leb, eqb}
+use Rattle.common.specs.Limits.{mostObjects}
 use Rattle.common.specs.Lists.{at}
 use Rattle.common.specs.Causes.{Cause, first}
 use Rattle.policy.specs.declared.Record.{Record}
@@ -29,7 +30,7 @@ limited end = false
 
 -- the numbers are in range and name what there is
 unfoldable pub inRange : Kind → ℕ → Record → List ℕ → Bool
-inRange head i r v = eqb (at v 0) 1 && (leb 1 (at v 1) && leb (at v 1) 255)
+inRange head i r v = eqb (at v 0) 1 && (leb 1 (at v 1) && leb (at v 1) mostObjects)
 inRange user i r v = ltb (at v 0) (r .objects)
 inRange edge i r v = edgeInRange (r .objects) (at v 0) (at v 1) (at v 2)
 inRange formula i r v = formulaInRange i (at v 0) (at v 1) (at v 2) (heightOf (opOf (at v 0)) (at v 1) (at v 2) (height r i))
@@ -68,13 +69,13 @@ key prerequisite v = pairKey (at v 0) (at v 1)
 key method v = 0
 key end v = 0
 
--- the least key that may stand at place i: one more than the key of the line before it
-abbrev pub leastKey : Kind → ℕ → Record → ℕ
-leastKey k zero r = 0
-leastKey k (suc i) r = key k (row k i r) + 1
+-- the smallest key that may stand at row i: one more than the key of the line before it
+abbrev pub minimumKey : Kind → ℕ → Record → ℕ
+minimumKey k zero r = 0
+minimumKey k (suc i) r = key k (row k i r) + 1
 
 unfoldable pub rowCauses : Kind → ℕ → Record → List ℕ → List Cause
-rowCauses k i r v = causes (limited k && leb (room k) i) (not (inRange k i r v)) (rising k && ltb (key k v) (leastKey k i r))
+rowCauses k i r v = causes (limited k && leb (room k) i) (not (inRange k i r v)) (rising k && ltb (key k v) (minimumKey k i r))
 
 unfoldable pub rowRefusal : Kind → ℕ → Record → List ℕ → ℕ
 rowRefusal k i r v = first (rowCauses k i r v)

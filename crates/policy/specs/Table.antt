@@ -4,6 +4,7 @@ use mathlib.Core.Bool.{Bool, false, cond}
 use mathlib.Core.List.{List, [], _∷_, _++_, map}
 use lib.ListN.{length, set, replicate}
 use lib.Dec.{eqb}
+use Rattle.common.specs.Limits.{mostUsers, mostEdges, mostFormulas, mostDemarcations, mostPrincipals, mostMethods, mostPairs, mostExclusions}
 use Rattle.common.specs.Lists.{at, table}
 use Rattle.policy.specs.declared.Record.{Record}
 use Rattle.policy.specs.declared.Memo.{Memo}
@@ -78,29 +79,33 @@ columns end r = []
 -- how many lines the table of a kind has room for
 abbrev pub room : Kind → ℕ
 room head = 1
-room user = 255
-room edge = 512
-room formula = 64
-room demarcation = 20
-room hierarchy = 380
-room principal = 20
-room exclusion = 190
-room prerequisite = 380
-room method = 32
+room user = mostUsers
+room edge = mostEdges
+room formula = mostFormulas
+room demarcation = mostDemarcations
+room hierarchy = mostPairs
+room principal = mostPrincipals
+room exclusion = mostExclusions
+room prerequisite = mostPairs
+room method = mostMethods
 room end = 0
 
--- the line at a place of a kind's table, as the numbers of its body; all of the lines
+-- the line at a row of a kind's table, as the numbers of its body; all of the lines
 abbrev pub row : Kind → ℕ → Record → List ℕ
 row k i r = map (λ c. at c i) (columns k r)
 
 abbrev pub rows : Kind → Record → List (List ℕ)
 rows k r = table (count k r) (λ i. row k i r)
 
+-- the edges of three columns, so many of them
+abbrev pub edgesOf : ℕ → List ℕ → List ℕ → List ℕ → List (List ℕ)
+edgesOf n labels sources targets = table n (λ i. at labels i ∷ at sources i ∷ at targets i ∷ [])
+
 -- ---- records
 
 -- a memo that knows nothing, for the pair (object, requestor)
 unfoldable pub emptied : ℕ → ℕ → Memo
-emptied o s = record { object = o; requestor = s; known = replicate 64 false; value = replicate 64 false }
+emptied o s = record { object = o; requestor = s; known = replicate mostFormulas false; value = replicate mostFormulas false }
 
 -- the blank record: one object and nothing else
 unfoldable pub blank : Record
@@ -108,37 +113,37 @@ blank =
     record {
       objects = 1;
       «user_count» = 0;
-      «user_objects» = replicate 255 0;
-      «user_roles» = replicate 255 0;
+      «user_objects» = replicate mostUsers 0;
+      «user_roles» = replicate mostUsers 0;
       «edge_count» = 0;
-      «edge_labels» = replicate 512 0;
-      «edge_sources» = replicate 512 0;
-      «edge_targets» = replicate 512 0;
+      «edge_labels» = replicate mostEdges 0;
+      «edge_sources» = replicate mostEdges 0;
+      «edge_targets» = replicate mostEdges 0;
       «formula_count» = 0;
-      «formula_ops» = replicate 64 0;
-      «formula_lefts» = replicate 64 0;
-      «formula_rights» = replicate 64 0;
+      «formula_ops» = replicate mostFormulas 0;
+      «formula_lefts» = replicate mostFormulas 0;
+      «formula_rights» = replicate mostFormulas 0;
       «demarcation_count» = 0;
-      «demarcation_privileges» = replicate 20 0;
+      «demarcation_privileges» = replicate mostDemarcations 0;
       «hierarchy_count» = 0;
-      inferiors = replicate 380 0;
-      superiors = replicate 380 0;
+      inferiors = replicate mostPairs 0;
+      superiors = replicate mostPairs 0;
       «principal_count» = 0;
-      «principal_formulas» = replicate 20 0;
-      «principal_demarcations» = replicate 20 0;
+      «principal_formulas» = replicate mostPrincipals 0;
+      «principal_demarcations» = replicate mostPrincipals 0;
       «exclusion_count» = 0;
-      «exclusion_lows» = replicate 190 0;
-      «exclusion_highs» = replicate 190 0;
+      «exclusion_lows» = replicate mostExclusions 0;
+      «exclusion_highs» = replicate mostExclusions 0;
       «prerequisite_count» = 0;
-      prerequisites = replicate 380 0;
-      dependents = replicate 380 0;
+      prerequisites = replicate mostPairs 0;
+      dependents = replicate mostPairs 0;
       «method_count» = 0;
-      «method_forms» = replicate 32 0;
-      «method_privileges» = replicate 32 0;
+      «method_forms» = replicate mostMethods 0;
+      «method_privileges» = replicate mostMethods 0;
       memo = emptied 0 0;
     }
 
--- a line of kind k is taken: of kind j's table the count is one more, and a column has v at the first unused place; other kinds' tables stay
+-- a line of kind k is taken: of kind j's table the count is one more, and a column has v at the first unused row; other kinds' tables stay
 abbrev pub more : Kind → Kind → Record → ℕ
 more k j r = cond (isKind k j) (count j r + 1) (count j r)
 
@@ -183,7 +188,7 @@ appended k r v =
 
 -- column j of the edges es, with the unused places zero
 abbrev pub column : ℕ → List (List ℕ) → List ℕ
-column j es = map (λ e. at e j) es ++ replicate (512 - length es) 0
+column j es = map (λ e. at e j) es ++ replicate (mostEdges - length es) 0
 
 -- the record with these fields of the edges, and this memo
 abbrev pub withEdges : Record → ℕ → List ℕ → List ℕ → List ℕ → Memo → Record

@@ -20,7 +20,7 @@ use Rattle.policy.specs.Table.{Kind, head, user, edge, formula, demarcat
 use Rattle.rows.specs.Op.{opOf, heightOf, formulaInRange}
 use Rattle.policy.specs.Height.{height}
 use Rattle.rows.specs.Checks.{causes}
-use Rattle.policy.specs.Rows.{limited, rising, key, leastKey, inRange, rowCauses, rowRefusal}
+use Rattle.policy.specs.Rows.{limited, rising, key, minimumKey, inRange, rowCauses, rowRefusal}
 use Rattle.policy.specs.Loadable.{rowsLoad, zeroFrom, tableLoads}
 
 -- ---- kinds and their octets
@@ -208,7 +208,7 @@ module _ (k : Kind) (r : Record) (v : List ℕ) (body : code head < code k) wher
           rw (eq-eqb g i p) (λ t. heightOf (opOf (at (e t) 0)) (at (e t) 1) (at (e t) 2) (λ f. h f t))
       go (no q) h = rw (ne-eqb g i q) (h g)
 
-  least-kept : (j : Kind) (i : ℕ) → i ≤ count j r → leastKey j i (appended k r v) ≡ leastKey j i r
+  least-kept : (j : Kind) (i : ℕ) → i ≤ count j r → minimumKey j i (appended k r v) ≡ minimumKey j i r
   least-kept j zero l = refl
   least-kept j (suc i) l = λ t. key j (row-kept j i l t) + 1
 
@@ -339,9 +339,9 @@ key-values end r v = refl
 
 -- the least key that may follow the new line
 pub least-appended : (k : Kind) (r : Record) (v : List ℕ) → code head < code k → code k < code end → Sized r → count k r < room k
-    → leastKey k (count k (appended k r v)) (appended k r v) ≡ key k v + 1
+    → minimumKey k (count k (appended k r v)) (appended k r v) ≡ key k v + 1
 least-appended k r v l h s few =
-    ap (λ (n : ℕ). leastKey k n (appended k r v)) (count-same k r v l h ∙ add-one (count k r))
+    ap (λ (n : ℕ). minimumKey k n (appended k r v)) (count-same k r v l h ∙ add-one (count k r))
     ∙ ap (λ (w : List ℕ). key k w + 1) (new-row k r v l h s few)
     ∙ ap (λ (n : ℕ). n + 1) (key-values k r v)
 

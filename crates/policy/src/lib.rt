@@ -2,6 +2,14 @@
 
 ghost use mathlib.Core.Path.{_≡_};
 ghost use Rattle.policy.specs.Table as table;
+use common::MOST_DEMARCATIONS;
+use common::MOST_EDGES;
+use common::MOST_EXCLUSIONS;
+use common::MOST_FORMULAS;
+use common::MOST_METHODS;
+use common::MOST_PAIRS;
+use common::MOST_PRINCIPALS;
+use common::MOST_USERS;
 
 pub mod edits;
 pub mod loadable;
@@ -10,8 +18,8 @@ pub mod loadable;
 pub struct Memo {
     pub object: u8,
     pub requestor: u8,
-    pub known: [bool; 64],
-    pub value: [bool; 64],
+    pub known: [bool; MOST_FORMULAS],
+    pub value: [bool; MOST_FORMULAS],
 }
 
 // The rules of a bundle. Every kind of line is a table: a count, and a column for each number of the line's body.
@@ -21,41 +29,41 @@ pub struct Record {
     pub objects: u8,
     // Kind 02: object, roles (role r has weight 2^r). Rising by object.
     pub user_count: usize,
-    pub user_objects: [u8; 255],
-    pub user_roles: [u16; 255],
+    pub user_objects: [u8; MOST_USERS],
+    pub user_roles: [u16; MOST_USERS],
     // Kind 03: label, from, to. Rising as a triple.
     pub edge_count: usize,
-    pub edge_labels: [u8; 512],
-    pub edge_sources: [u8; 512],
-    pub edge_targets: [u8; 512],
+    pub edge_labels: [u8; MOST_EDGES],
+    pub edge_sources: [u8; MOST_EDGES],
+    pub edge_targets: [u8; MOST_EDGES],
     // Kind 04: op, a, b.
     pub formula_count: usize,
-    pub formula_ops: [u8; 64],
-    pub formula_lefts: [u8; 64],
-    pub formula_rights: [u8; 64],
+    pub formula_ops: [u8; MOST_FORMULAS],
+    pub formula_lefts: [u8; MOST_FORMULAS],
+    pub formula_rights: [u8; MOST_FORMULAS],
     // Kind 05: privileges (privilege k has weight 2^k).
     pub demarcation_count: usize,
-    pub demarcation_privileges: [u64; 20],
+    pub demarcation_privileges: [u64; MOST_DEMARCATIONS],
     // Kind 06: inferior, superior demarcation. Rising as a pair.
     pub hierarchy_count: usize,
-    pub inferiors: [u8; 380],
-    pub superiors: [u8; 380],
+    pub inferiors: [u8; MOST_PAIRS],
+    pub superiors: [u8; MOST_PAIRS],
     // Kind 07: formula, demarcation.
     pub principal_count: usize,
-    pub principal_formulas: [u8; 20],
-    pub principal_demarcations: [u8; 20],
+    pub principal_formulas: [u8; MOST_PRINCIPALS],
+    pub principal_demarcations: [u8; MOST_PRINCIPALS],
     // Kind 08: two principals, the lower first. Rising as a pair.
     pub exclusion_count: usize,
-    pub exclusion_lows: [u8; 190],
-    pub exclusion_highs: [u8; 190],
+    pub exclusion_lows: [u8; MOST_EXCLUSIONS],
+    pub exclusion_highs: [u8; MOST_EXCLUSIONS],
     // Kind 09: the second principal needs the first. Rising as a pair.
     pub prerequisite_count: usize,
-    pub prerequisites: [u8; 380],
-    pub dependents: [u8; 380],
+    pub prerequisites: [u8; MOST_PAIRS],
+    pub dependents: [u8; MOST_PAIRS],
     // Kind 0A: form (0 one-of, 1 all-of), privileges.
     pub method_count: usize,
-    pub method_forms: [u8; 32],
-    pub method_privileges: [u64; 32],
+    pub method_forms: [u8; MOST_METHODS],
+    pub method_privileges: [u64; MOST_METHODS],
     // What earlier questions evaluated.
     pub memo: Memo,
 }
@@ -73,8 +81,8 @@ pub fn emptied(object: u8, requestor: u8) -> Memo
     Memo {
         object: object,
         requestor: requestor,
-        known: [false; 64],
-        value: [false; 64],
+        known: [false; MOST_FORMULAS],
+        value: [false; MOST_FORMULAS],
     }
 }
 
@@ -86,33 +94,33 @@ pub fn blank() -> Record
     Record {
         objects: 1,
         user_count: 0,
-        user_objects: [0; 255],
-        user_roles: [0; 255],
+        user_objects: [0; MOST_USERS],
+        user_roles: [0; MOST_USERS],
         edge_count: 0,
-        edge_labels: [0; 512],
-        edge_sources: [0; 512],
-        edge_targets: [0; 512],
+        edge_labels: [0; MOST_EDGES],
+        edge_sources: [0; MOST_EDGES],
+        edge_targets: [0; MOST_EDGES],
         formula_count: 0,
-        formula_ops: [0; 64],
-        formula_lefts: [0; 64],
-        formula_rights: [0; 64],
+        formula_ops: [0; MOST_FORMULAS],
+        formula_lefts: [0; MOST_FORMULAS],
+        formula_rights: [0; MOST_FORMULAS],
         demarcation_count: 0,
-        demarcation_privileges: [0; 20],
+        demarcation_privileges: [0; MOST_DEMARCATIONS],
         hierarchy_count: 0,
-        inferiors: [0; 380],
-        superiors: [0; 380],
+        inferiors: [0; MOST_PAIRS],
+        superiors: [0; MOST_PAIRS],
         principal_count: 0,
-        principal_formulas: [0; 20],
-        principal_demarcations: [0; 20],
+        principal_formulas: [0; MOST_PRINCIPALS],
+        principal_demarcations: [0; MOST_PRINCIPALS],
         exclusion_count: 0,
-        exclusion_lows: [0; 190],
-        exclusion_highs: [0; 190],
+        exclusion_lows: [0; MOST_EXCLUSIONS],
+        exclusion_highs: [0; MOST_EXCLUSIONS],
         prerequisite_count: 0,
-        prerequisites: [0; 380],
-        dependents: [0; 380],
+        prerequisites: [0; MOST_PAIRS],
+        dependents: [0; MOST_PAIRS],
         method_count: 0,
-        method_forms: [0; 32],
-        method_privileges: [0; 32],
+        method_forms: [0; MOST_METHODS],
+        method_privileges: [0; MOST_METHODS],
         memo: memo,
     }
 }

@@ -4,10 +4,20 @@ ghost use mathlib.Core.Path.{_≡_};
 ghost use mathlib.Core.Bool.{true, _&&_, _||_};
 ghost use Prim.Native.Nat.{_≤_};
 ghost use Rattle.closure.specs.Closure.{pairsOf, circular};
-ghost use Rattle.policy.specs.Table.{Kind, rows, user, edge, formula, demarcation, hierarchy, principal, exclusion, prerequisite, method};
+ghost use Rattle.common.specs.Limits.{mostPrincipals};
+ghost use Rattle.policy.specs.Table.{Kind, rows, user, edge, formula, demarcation};
+ghost use Rattle.policy.specs.Table.{hierarchy, principal, exclusion, prerequisite, method};
 ghost use Rattle.policy.specs.Loadable.{zeroFrom, pairsLoad, tableLoads};
 ghost use Rattle.policy.specs.Loadable as spec;
 use crate::Record;
+use common::MOST_DEMARCATIONS;
+use common::MOST_EDGES;
+use common::MOST_EXCLUSIONS;
+use common::MOST_FORMULAS;
+use common::MOST_METHODS;
+use common::MOST_PAIRS;
+use common::MOST_PRINCIPALS;
+use common::MOST_USERS;
 
 // The places of a column from count on are zero.
 fn zero_from(column: &[u8], count: usize) -> bool
@@ -51,16 +61,16 @@ fn users_load(rules: Record) -> bool
     ensures { λ r. ⌜ r ≡ tableLoads rules user ⌝ }
 {
     let n = rules.user_count;
-    if 255 < n {
+    if MOST_USERS < n {
         return false;
     }
     let mut fit = true;
-    let mut least: u32 = 0;
+    let mut minimum: u32 = 0;
     let mut i = 0;
     while i < n {
         let object = rules.user_objects[i];
-        fit = fit & (rows::user_refusal(rules.objects, least, object) == 0);
-        least = rows::after_user(object);
+        fit = fit & (rows::user_refusal(rules.objects, minimum, object) == 0);
+        minimum = rows::after_user(object);
         i += 1;
     }
     let objects_end = zero_from(&rules.user_objects, n);
@@ -73,18 +83,18 @@ fn edges_load(rules: Record) -> bool
     ensures { λ r. ⌜ r ≡ tableLoads rules edge ⌝ }
 {
     let n = rules.edge_count;
-    if 512 < n {
+    if MOST_EDGES < n {
         return false;
     }
     let mut fit = true;
-    let mut least: u32 = 0;
+    let mut minimum: u32 = 0;
     let mut i = 0;
     while i < n {
         let label = rules.edge_labels[i];
         let source = rules.edge_sources[i];
         let target = rules.edge_targets[i];
-        fit = fit & (rows::edge_refusal(i, rules.objects, least, label, source, target) == 0);
-        least = rows::after_edge(label, source, target);
+        fit = fit & (rows::edge_refusal(i, rules.objects, minimum, label, source, target) == 0);
+        minimum = rows::after_edge(label, source, target);
         i += 1;
     }
     let labels_end = zero_from(&rules.edge_labels, n);
@@ -98,10 +108,10 @@ fn formulas_load(rules: Record) -> bool
     ensures { λ r. ⌜ r ≡ tableLoads rules formula ⌝ }
 {
     let n = rules.formula_count;
-    if 64 < n {
+    if MOST_FORMULAS < n {
         return false;
     }
-    let mut heights = [0u8; 64];
+    let mut heights = [0u8; MOST_FORMULAS];
     let mut fit = true;
     let mut i = 0;
     while i < n {
@@ -124,27 +134,32 @@ fn demarcations_load(rules: Record) -> bool
     ensures { λ r. ⌜ r ≡ tableLoads rules demarcation ⌝ }
 {
     let n = rules.demarcation_count;
-    if 20 < n {
+    if MOST_DEMARCATIONS < n {
         return false;
     }
     zero_from_u64(&rules.demarcation_privileges, n)
 }
 
 // Kinds 06 and 09: pairs of so many things, rising.
-fn pairs_load(things: usize, count: usize, firsts: [u8; 380], seconds: [u8; 380]) -> bool
+fn pairs_load(
+    things: usize,
+    count: usize,
+    firsts: [u8; MOST_PAIRS],
+    seconds: [u8; MOST_PAIRS],
+) -> bool
     ensures { λ r. ⌜ r ≡ pairsLoad things count firsts seconds ⌝ }
 {
-    if 380 < count {
+    if MOST_PAIRS < count {
         return false;
     }
     let mut fit = true;
-    let mut least: u32 = 0;
+    let mut minimum: u32 = 0;
     let mut i = 0;
     while i < count {
         let a = firsts[i];
         let b = seconds[i];
-        fit = fit & (rows::pair_refusal(things, least, a, b) == 0);
-        least = rows::after_pair(a, b);
+        fit = fit & (rows::pair_refusal(things, minimum, a, b) == 0);
+        minimum = rows::after_pair(a, b);
         i += 1;
     }
     let firsts_end = zero_from(&firsts, count);
@@ -157,7 +172,7 @@ fn principals_load(rules: Record) -> bool
     ensures { λ r. ⌜ r ≡ tableLoads rules principal ⌝ }
 {
     let n = rules.principal_count;
-    if 20 < n {
+    if MOST_PRINCIPALS < n {
         return false;
     }
     let formulas = rules.formula_count;
@@ -181,17 +196,17 @@ fn exclusions_load(rules: Record) -> bool
     ensures { λ r. ⌜ r ≡ tableLoads rules exclusion ⌝ }
 {
     let n = rules.exclusion_count;
-    if 190 < n {
+    if MOST_EXCLUSIONS < n {
         return false;
     }
     let mut fit = true;
-    let mut least: u32 = 0;
+    let mut minimum: u32 = 0;
     let mut i = 0;
     while i < n {
         let low = rules.exclusion_lows[i];
         let high = rules.exclusion_highs[i];
-        fit = fit & (rows::exclusion_refusal(rules.principal_count, least, low, high) == 0);
-        least = rows::after_pair(low, high);
+        fit = fit & (rows::exclusion_refusal(rules.principal_count, minimum, low, high) == 0);
+        minimum = rows::after_pair(low, high);
         i += 1;
     }
     let lows_end = zero_from(&rules.exclusion_lows, n);
@@ -204,7 +219,7 @@ fn methods_load(rules: Record) -> bool
     ensures { λ r. ⌜ r ≡ tableLoads rules method ⌝ }
 {
     let n = rules.method_count;
-    if 32 < n {
+    if MOST_METHODS < n {
         return false;
     }
     let mut fit = true;
@@ -231,7 +246,8 @@ fn graph_loads(rules: Record) -> bool
 
 // Kinds 06 to 0A.
 fn grounds_load(rules: Record) -> bool
-    ensures { λ r. ⌜ r ≡ (tableLoads rules hierarchy && (tableLoads rules principal && (tableLoads rules exclusion && (tableLoads rules prerequisite && tableLoads rules method)))) ⌝ }
+    ensures { λ r. ⌜ r ≡ (tableLoads rules hierarchy && (tableLoads rules principal && (tableLoads rules exclusion
+        && (tableLoads rules prerequisite && tableLoads rules method)))) ⌝ }
 {
     let inferiors = rules.inferiors;
     let superiors = rules.superiors;
@@ -256,8 +272,13 @@ fn grounds_load(rules: Record) -> bool
 }
 
 // Whether the first count pairs of so many things hold a circle.
-fn pairs_circular(things: usize, count: usize, firsts: [u8; 380], seconds: [u8; 380]) -> bool
-    requires { ⌜ (pairsLoad things count firsts seconds ≡ true) × (things ≤ 20) ⌝ }
+fn pairs_circular(
+    things: usize,
+    count: usize,
+    firsts: [u8; MOST_PAIRS],
+    seconds: [u8; MOST_PAIRS],
+) -> bool
+    requires { ⌜ (pairsLoad things count firsts seconds ≡ true) × (things ≤ mostPrincipals) ⌝ }
     ensures { λ r. ⌜ r ≡ circular (pairsOf count firsts seconds) ⌝ }
 {
     let relation = closure::related(firsts, seconds, count);

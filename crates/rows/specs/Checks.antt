@@ -4,11 +4,12 @@ use mathlib.Core.Bool.{Bool, not, _&&_}
 use mathlib.Core.List.{List, [], _∷_}
 use lib.Dec.{ltb, leb, eqb}
 use Rattle.common.specs.Causes.{Cause, cause}
+use Rattle.common.specs.Limits.{highestLabel}
 use Rattle.common.specs.Refusals.{overLimit, outOfRange, notRising}
 
 -- an edge's label is 0 to 15, and its ends are below the object count n
 abbrev pub edgeInRange : ℕ → ℕ → ℕ → ℕ → Bool
-edgeInRange n l x y = leb l 15 && (ltb x n && ltb y n)
+edgeInRange n l x y = leb l highestLabel && (ltb x n && ltb y n)
 
 -- two different things below n
 abbrev pub pairInRange : ℕ → ℕ → ℕ → Bool

@@ -2,10 +2,12 @@
 use mathlib.Core.Bool.{Bool, false, cond, _&&_}
 use Prim.Native.Nat.{ℕ, suc, max}
 use lib.Dec.{ltb, leb, eqb}
+use Rattle.common.specs.Limits.{highestLabel, highestRole, greatestHeight}
 
--- 0 true; 1 here is s; 2 here is o; 3 s holds role a; 4 not a; 5 a and b; 6 a or b; 7 some edge (a, here, v) has b at v; 8 some edge (a, v, here) has b at v
+-- 0 true; 1 here is s; 2 here is o; 3 s holds role a; 4 not a; 5 a and b; 6 a or b;
+-- 7 some edge (a, here, v) has b true at v; 8 some edge (a, v, here) has b true at v
 pub data Op : Type 0 where
-  always requestor object role negation conjunction disjunction onward backward unknown : Op
+  always requestor object role negation conjunction disjunction forward backward unknown : Op
 
 abbrev pub opOf : ℕ → Op
 opOf n =
@@ -16,7 +18,7 @@ opOf n =
     (cond (eqb n 4) negation
     (cond (eqb n 5) conjunction
     (cond (eqb n 6) disjunction
-    (cond (eqb n 7) onward
+    (cond (eqb n 7) forward
     (cond (eqb n 8) backward
     unknown))))))))
 
@@ -25,12 +27,12 @@ abbrev pub partsInRange : Op → ℕ → ℕ → ℕ → Bool
 partsInRange always i a b = eqb a 0 && eqb b 0
 partsInRange requestor i a b = eqb a 0 && eqb b 0
 partsInRange object i a b = eqb a 0 && eqb b 0
-partsInRange role i a b = leb a 15 && eqb b 0
+partsInRange role i a b = leb a highestRole && eqb b 0
 partsInRange negation i a b = ltb a i && eqb b 0
 partsInRange conjunction i a b = ltb a i && ltb b i
 partsInRange disjunction i a b = ltb a i && ltb b i
-partsInRange onward i a b = leb a 15 && ltb b i
-partsInRange backward i a b = leb a 15 && ltb b i
+partsInRange forward i a b = leb a highestLabel && ltb b i
+partsInRange backward i a b = leb a highestLabel && ltb b i
 partsInRange unknown i a b = false
 
 -- 0 for ops 0 to 3, else one more than the highest child; `part g` is the height of formula g
@@ -42,10 +44,10 @@ heightOf role a b part = 0
 heightOf negation a b part = suc (part a)
 heightOf conjunction a b part = suc (max (part a) (part b))
 heightOf disjunction a b part = suc (max (part a) (part b))
-heightOf onward a b part = suc (part b)
+heightOf forward a b part = suc (part b)
 heightOf backward a b part = suc (part b)
 heightOf unknown a b part = 0
 
 -- the formula (op, a, b) numbered i, with a height h, is in range
 abbrev pub formulaInRange : ℕ → ℕ → ℕ → ℕ → ℕ → Bool
-formulaInRange i op a b h = partsInRange (opOf op) i a b && leb h 8
+formulaInRange i op a b h = partsInRange (opOf op) i a b && leb h greatestHeight

@@ -10,7 +10,7 @@ use borrow.Author.Tests.{ne-eqb}
 use Rattle.rows.specs.Op.{unknown, opOf, partsInRange, heightOf}
 
 -- an op above 8 is unknown
-op-above : (op : ℕ) → 8 < op → opOf op ≡ unknown
+pub op-above : (op : ℕ) → 8 < op → opOf op ≡ unknown
 op-above op l =
     rw (
       ne-eqb op 0 (λ e. omega arith),

@@ -24,17 +24,28 @@ length-of n c vs p = ap length (sym (map-id c)) ∙ p .1 .0 .1
 roomy : (s : tie.Start) → Roomy (s .args .memo)
 roomy s = let f = s .good .0 .1 .1 .1 .1 in record { knowns = length-of 64 (s .args .memo .known) _ (f .0); values = length-of 64 (s .args .memo .value) _ (f .1 .0) }
 
+-- past the first test; and the function's entry, from there
+abbrev same-object : tie.Else2 → tie.Else1
+same-object c = c .before .before .before
+
+abbrev entry : tie.Else1 → tie.Start
+entry c = c .before .before .before
+
 returns : tie.Need-returns
-returns c = let e = c .emptied .ensures ∙ other-object _ _ _ (c .before .if1 .taken) in (e, subst Roomy (sym e) (roomy-for _ _ _ (roomy (c .before .before .before))))
+returns c =
+    let e = c .emptied .ensures ∙ other-object _ _ (c .before .if1 .taken) in
+    (e, subst Roomy (sym e) (roomy-for _ _ (roomy (c .before .before .before .before))))
 
 emptied-requires-2 : tie.Need-emptied-requires-2
 emptied-requires-2 c κs = search needs
 
 returns-2 : tie.Need-returns-2
-returns-2 c = let e = c .emptied2 .ensures ∙ other-requestor _ _ _ (c .before .if2 .taken) in (e, subst Roomy (sym e) (roomy-for _ _ _ (roomy (c .before .before .before .before .before))))
+returns-2 c =
+    let e = c .emptied2 .ensures ∙ other-requestor _ _ (c .before .if2 .taken) in
+    (e, subst Roomy (sym e) (roomy-for _ _ (roomy (entry (c .before .before .before .before)))))
 
 returns-3 : tie.Need-returns-3
-returns-3 c = (same-pair _ _ _ (c .before .before .if1 .left) (c .if2 .left), roomy (c .before .before .before .before))
+returns-3 c = (same-pair _ _ (same-object c .if1 .left) (c .if2 .left), roomy (entry (same-object c)))
 
 pub memo-for-spec : {M : Type 1} → statement M
 memo-for-spec =

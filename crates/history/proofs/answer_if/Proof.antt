@@ -2,7 +2,10 @@
 use mathlib.Core.Path.{_∙_, ap}
 use borrow.Author.Needs.{needs}
 use Rattle.policy.specs.declared.Edited.{Edited}
+use Rattle.justification.specs.declared.Question.{Question}
 use Rattle.justification.specs.declared.Verdict.{Verdict}
+use Rattle.justification.specs.Predicates.{liberal, strict}
+use Rattle.access.specs.Access.{eager, lazy}
 use Rattle.history.specs.Replay.{answerTo, ofEdit, ofVerdict}
 use Rattle.history.proofs.Arms.{arm, no-arm}
 use Rattle.history.proofs.answer_if.Statement.{statement}
@@ -20,20 +23,32 @@ remove-edge-if-requires c κs = c .before .pre
 of-edit-requires-2 : tie.Need-of-edit-requires-2
 of-edit-requires-2 c κs = search needs
 
+question-of-requires : tie.Need-question-of-requires
+question-of-requires c κs = search needs
+
 ask-eager-if-requires : tie.Need-ask-eager-if-requires
-ask-eager-if-requires c κs = c .before .pre
+ask-eager-if-requires c κs = c .before .before .pre
+
+question-of-requires-2 : tie.Need-question-of-requires-2
+question-of-requires-2 c κs = search needs
 
 ask-lazy-if-requires : tie.Need-ask-lazy-if-requires
-ask-lazy-if-requires c κs = c .before .pre
+ask-lazy-if-requires c κs = c .before .before .pre
+
+question-of-requires-3 : tie.Need-question-of-requires-3
+question-of-requires-3 c κs = search needs
 
 liberal-if-requires : tie.Need-liberal-if-requires
-liberal-if-requires c κs = c .before .pre
+liberal-if-requires c κs = c .before .before .pre
 
 of-verdict-requires : tie.Need-of-verdict-requires
 of-verdict-requires c κs = search needs
 
+question-of-requires-4 : tie.Need-question-of-requires-4
+question-of-requires-4 c κs = search needs
+
 strict-if-requires : tie.Need-strict-if-requires
-strict-if-requires c κs = c .before .pre
+strict-if-requires c κs = c .before .before .pre
 
 of-verdict-requires-2 : tie.Need-of-verdict-requires-2
 of-verdict-requires-2 c κs = search needs
@@ -55,30 +70,38 @@ returns-2 c =
 returns-3 : tie.Need-returns-3
 unfolding answerTo
 returns-3 c =
-    let m = c .before in
+    let m = c .before .before in
     let a = m .before .args in
-    arm (a .rules) (a .kind) 2 (a .a) (a .b) (a .c) (m .match .keys3) (c .ask-eager-if .ensures)
+    arm (a .rules) (a .kind) 2 (a .a) (a .b) (a .c) (m .match .keys3)
+    (c .ask-eager-if .ensures ∙ ap (λ (q : Question). eager (a .rules) q) (c .before .question-of .ensures))
 
 returns-4 : tie.Need-returns-4
 unfolding answerTo
 returns-4 c =
-    let m = c .before in
+    let m = c .before .before in
     let a = m .before .args in
-    arm (a .rules) (a .kind) 3 (a .a) (a .b) (a .c) (m .match .keys4) (c .ask-lazy-if .ensures)
+    arm (a .rules) (a .kind) 3 (a .a) (a .b) (a .c) (m .match .keys4)
+    (c .ask-lazy-if .ensures ∙ ap (λ (q : Question). lazy (a .rules) q) (c .before .question-of2 .ensures))
 
 returns-5 : tie.Need-returns-5
 unfolding answerTo
 returns-5 c =
-    let m = c .before .before in
+    let m = c .before .before .before in
     let a = m .before .args in
-    arm (a .rules) (a .kind) 4 (a .a) (a .b) (a .c) (m .match .keys5) (c .of-verdict .ensures ∙ ap (λ (x : Verdict). ofVerdict (a .rules) x) (c .before .liberal-if .ensures))
+    arm (a .rules) (a .kind) 4 (a .a) (a .b) (a .c) (m .match .keys5)
+    (c .of-verdict .ensures
+    ∙ ap (λ (x : Verdict). ofVerdict (a .rules) x)
+    (c .before .liberal-if .ensures ∙ ap (λ (q : Question). liberal (a .rules) q) (c .before .before .question-of3 .ensures)))
 
 returns-6 : tie.Need-returns-6
 unfolding answerTo
 returns-6 c =
-    let m = c .before .before in
+    let m = c .before .before .before in
     let a = m .before .args in
-    arm (a .rules) (a .kind) 5 (a .a) (a .b) (a .c) (m .match .keys6) (c .of-verdict2 .ensures ∙ ap (λ (x : Verdict). ofVerdict (a .rules) x) (c .before .strict-if .ensures))
+    arm (a .rules) (a .kind) 5 (a .a) (a .b) (a .c) (m .match .keys6)
+    (c .of-verdict2 .ensures
+    ∙ ap (λ (x : Verdict). ofVerdict (a .rules) x)
+    (c .before .strict-if .ensures ∙ ap (λ (q : Question). strict (a .rules) q) (c .before .before .question-of4 .ensures)))
 
 returns-7 : tie.Need-returns-7
 returns-7 c =
@@ -94,10 +117,14 @@ answer-if-spec =
     of-edit-requires
     remove-edge-if-requires
     of-edit-requires-2
+    question-of-requires
     ask-eager-if-requires
+    question-of-requires-2
     ask-lazy-if-requires
+    question-of-requires-3
     liberal-if-requires
     of-verdict-requires
+    question-of-requires-4
     strict-if-requires
     of-verdict-requires-2
     returns

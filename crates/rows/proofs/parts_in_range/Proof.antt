@@ -5,22 +5,22 @@ use Rattle.rows.proofs.parts_in_range.Statement.{statement}
 use Rattle.rows.proofs.parts_in_range.Tie as tie
 
 returns : tie.Need-returns
-returns c = let a = c .before .args in parts-role (a .place) (a .a) (a .b) (a .op) (omega arith)
+returns c = let a = c .before .args in parts-role (a .row) (a .a) (a .b) (a .op) (omega arith)
 
 returns-2 : tie.Need-returns-2
-returns-2 c = let a = c .before .args in parts-not (a .place) (a .a) (a .b) (a .op) (omega arith)
+returns-2 c = let a = c .before .args in parts-not (a .row) (a .a) (a .b) (a .op) (omega arith)
 
 returns-3 : tie.Need-returns-3
-returns-3 c = let a = c .before .before .args in parts-plain (a .place) (a .a) (a .b) (a .op) (omega arith)
+returns-3 c = let a = c .before .before .args in parts-plain (a .row) (a .a) (a .b) (a .op) (omega arith)
 
 returns-4 : tie.Need-returns-4
-returns-4 c = let a = c .before .before .before .args in parts-two (a .place) (a .a) (a .b) (a .op) (omega arith) (omega arith)
+returns-4 c = let a = c .before .before .before .args in parts-two (a .row) (a .a) (a .b) (a .op) (omega arith) (omega arith)
 
 returns-5 : tie.Need-returns-5
-returns-5 c = let a = c .before .before .before .before .args in parts-step (a .place) (a .a) (a .b) (a .op) (omega arith) (omega arith)
+returns-5 c = let a = c .before .before .before .before .args in parts-step (a .row) (a .a) (a .b) (a .op) (omega arith) (omega arith)
 
 returns-6 : tie.Need-returns-6
-returns-6 c = let a = c .before .before .before .before .args in parts-unknown (a .place) (a .a) (a .b) (a .op) (omega arith)
+returns-6 c = let a = c .before .before .before .before .args in parts-unknown (a .row) (a .a) (a .b) (a .op) (omega arith)
 
 pub parts-in-range-spec : {M : Type 1} → statement M
 parts-in-range-spec =

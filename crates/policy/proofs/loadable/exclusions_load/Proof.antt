@@ -4,7 +4,7 @@ use mathlib.Core.Path.{_≡_, refl, _∙_}
 use native.Mathlib.Omega.{arith}
 use Rattle.common.specs.Lists.{at}
 use Rattle.policy.specs.Table.{exclusion}
-use Rattle.policy.specs.Rows.{leastKey}
+use Rattle.policy.specs.Rows.{minimumKey}
 use Rattle.policy.specs.RowLaws.{exclusion-values}
 use Rattle.policy.proofs.Zero.{zeros-two}
 use Rattle.policy.proofs.Tables.{Fits, fits-none, fits-more, least-more, table-over, table-all}
@@ -13,7 +13,7 @@ use Rattle.policy.proofs.loadable.exclusions_load.Statement.{statement}
 use Rattle.policy.proofs.loadable.exclusions_load.Tie as tie
 
 abbrev Inv-loop : tie.InvT-loop
-Inv-loop rules n fit₀ least₀ i₀ fit least i = Fits rules exclusion fit i × (least ≡ leastKey exclusion i rules) × (i ≤ n)
+Inv-loop rules n fit₀ least₀ i₀ fit least i = Fits rules exclusion fit i × (least ≡ minimumKey exclusion i rules) × (i ≤ n)
 
 abbrev μ-loop : tie.MeasureT-loop
 μ-loop rules n fit₀ least₀ i₀ fit least i = n - i
