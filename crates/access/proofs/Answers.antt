@@ -25,12 +25,14 @@ use Rattle.justification.specs.declared.Question.{Question}
 use Rattle.justification.specs.Predicates.{questionRefusal}
 use Rattle.justification.specs.NamedLaws.{principal-named}
 use Rattle.justification.specs.Parts.{Marks}
-use Rattle.justification.specs.Walk.{value, formulaOf, granted, denied, outcome, evaluatedAll, eagerly, tried, knownFalse, goOn, walk, tryNext, searching}
-use Rattle.justification.specs.WalkLaws.{Roomy, walk-searches}
-use Rattle.access.specs.declared.Tried.{Tried}
-use Rattle.access.specs.Access.{memoFor, truthAt, newly, answered, refused, asked, eager, lazy}
-use Rattle.access.specs.Parts.{trueAt, weighedOf}
-use Rattle.access.specs.AccessLaws.{grounded, least-ext, evaluated-ext, searching-ext}
+use Rattle.memo.specs.Memo.{value}
+use Rattle.memo.specs.Walk.{formulaOf, granted, denied, outcome, evaluatedAll, eagerly, tried, knownFalse, afterWeighing, walk, tryNext, searching}
+use Rattle.memo.specs.WalkLaws.{MemoLengths, walk-searches}
+use Rattle.memo.specs.declared.Tried.{Tried}
+use Rattle.memo.specs.Memo.{memoFor, newly}
+use Rattle.access.specs.Access.{truthAt, answered, refused, asked, eager, lazy}
+use Rattle.memo.specs.Evaluation.{trueFor, weighedOf}
+use Rattle.memo.specs.StepLaws.{formulas-in-memo, least-ext, evaluated-ext, searching-ext}
 
 -- a set of marked principals, as a test
 marks-member : {n s : ℕ} {t : ℕ → Bool} → Marks n t s → (p : ℕ) → p < n → member p s ≡ t p
@@ -75,11 +77,11 @@ module _ (r : Record) (q : Question) where
         ∙ eager-is zero-number
 
     -- lazy: the outcome of at most P + 1 searches
-    pub lazy-answer : Roomy before → answered r before (searching (r .«principal_count» + 1) (trueAt x) r (q .method) before) ≡ lazy r q
-    lazy-answer roomy =
+    pub lazy-answer : MemoLengths before → answered r before (searching (r .«principal_count» + 1) (trueAt x) r (q .method) before) ≡ lazy r q
+    lazy-answer lengths =
         ap (answered r before)
         (searching-ext (trueAt x) (truthAt r q) r (truth-same r q x loads made) (r .«principal_count» + 1) (q .method) before
-        ∙ sym (walk-searches (truthAt r q) r (q .method) before (grounded r loads) roomy))
+        ∙ sym (walk-searches (truthAt r q) r (q .method) before (formulas-in-memo r loads) lengths))
         ∙ ap (λ (k : Memo). answered r k (walk (truthAt r q) r k (candidates r (q .method)))) first
         ∙ lazy-is zero-number
 
@@ -124,8 +126,8 @@ module _ (truth : ℕ → Bool) (r : Record) (k : ℕ) (before : Memo) where
         ap (λ (x : Option ℕ). tryNext truth r memo x (searching l truth r k)) (sym e) ∙ d
 
     module _ {c : ℕ} (e : found ≡ some c) (t : Tried) (w : weighedOf t ≡ tried truth r memo (members r c)) where
-      weighed-next : (l : ℕ) → goOn c (weighedOf t) (searching l truth r k) ≡ tryNext truth r memo found (searching l truth r k)
-      weighed-next l = ap (λ x. goOn c x (searching l truth r k)) w ∙ ap (λ (x : Option ℕ). tryNext truth r memo x (searching l truth r k)) (sym e)
+      weighed-next : (l : ℕ) → afterWeighing c (weighedOf t) (searching l truth r k) ≡ tryNext truth r memo found (searching l truth r k)
+      weighed-next l = ap (λ x. afterWeighing c x (searching l truth r k)) w ∙ ap (λ (x : Option ℕ). tryNext truth r memo x (searching l truth r k)) (sym e)
 
       pub round-granted : t .survives ≡ true → granted c (t .memo) ≡ searching (r .«principal_count» + 1) truth r k before
       round-granted v =
@@ -135,7 +137,7 @@ module _ (truth : ℕ → Bool) (r : Record) (k : ℕ) (before : Memo) where
       pub round-ended : t .survives ≡ false → Round (rounds + 1) (t .memo)
       round-ended v =
           let (l, u, d) = go (h .fuel) (h .sum) (h .same) in
-          let on : goOn c (weighedOf t) (searching l truth r k) ≡ searching l truth r k (t .memo) = rw v refl in
+          let on : afterWeighing c (weighedOf t) (searching l truth r k) ≡ searching l truth r k (t .memo) = rw v refl in
           record { fuel = l; sum = u; same = sym on ∙ weighed-next l ∙ d }
 
   pub round-last : {rounds : ℕ} {memo : Memo} → r .«principal_count» < rounds → Round rounds memo → denied memo ≡ searching (r .«principal_count» + 1) truth r k before

@@ -1,3 +1,1 @@
-mod Memos
-mod Weighing
 mod Answers

@@ -1,31 +1,23 @@
 -- The eager and the lazy question (document 01, "Questions and edits"; refusals 14 to 17 and 19), and what each returns and leaves.
 use Prim.Native.Nat.{ℕ}
-use mathlib.Core.Bool.{Bool, not, cond, _&&_}
-use lib.ListN.{length}
+use mathlib.Core.Bool.{Bool, cond}
 use lib.Dec.{eqb}
-use Rattle.common.specs.Lists.{those, below}
+use Rattle.common.specs.Lists.{below}
 use Rattle.common.specs.Refusals.{noSet}
 use Rattle.policy.specs.declared.Record.{Record}
 use Rattle.policy.specs.declared.Memo.{Memo}
-use Rattle.policy.specs.Table.{emptied, withMemo}
+use Rattle.policy.specs.Table.{withMemo}
 use Rattle.formula.specs.Formula.{holds}
 use Rattle.justification.specs.Justification.{candidates}
 use Rattle.justification.specs.declared.Question.{Question}
 use Rattle.justification.specs.Predicates.{questionRefusal}
-use Rattle.justification.specs.Walk.{known, Outcome, granted, denied, evaluatedAll, eagerly, walk}
+use Rattle.memo.specs.Memo.{memoFor, newly}
+use Rattle.memo.specs.Walk.{Outcome, granted, denied, evaluatedAll, eagerly, walk}
 use Rattle.access.specs.declared.Answer.{Answer}
-
--- the memo for a question: if its pair differs, it is first emptied and takes the new pair
-unfoldable pub memoFor : Memo → Question → Memo
-memoFor m q = cond (eqb (m .object) (q .object) && eqb (m .requestor) (q .requestor)) m (emptied (q .object) (q .requestor))
 
 -- what a formula comes to, evaluated afresh at the object
 abbrev pub truthAt : Record → Question → ℕ → Bool
 truthAt r q f = holds r f (q .object) (q .object) (q .requestor)
-
--- the evaluations: the formulas known after and not known before
-unfoldable pub newly : Memo → Memo → ℕ
-newly before after = length (those (λ f. known after f && not (known before f)) (below 64))
 
 -- granted: the set. Denied: 17 and the empty set. Both with the evaluations, and the record with the new memo
 unfoldable pub answered : Record → Memo → Outcome → Answer

@@ -1,4 +1,4 @@
--- The two questions answer the same, lazy by no more evaluations; what they come to rests on the truth of the principals' formulas alone.
+-- The two questions answer the same, lazy by no more evaluations.
 use Prim.Native.Nat.{ℕ, zero, suc, _+_, _≤_, _<_}
 use mathlib.Core.Path.{_≡_, refl, sym, _∙_, ap}
 use mathlib.Core.Logic.{_≢_}
@@ -6,36 +6,30 @@ use mathlib.Core.Bool.{Bool, true, false, false≢true, not, cond, _&&_}
 use mathlib.Core.List.{List, [], _∷_, _++_}
 use mathlib.Core.Option.{Option, none, some}
 use native.Mathlib.Omega.{arith}
-use native.Mathlib.Numerals.{add-one}
 use native.Mathlib.Decide.{ℕ-discrete}
 use lib.ListN.{length}
 use lib.Dec.{eqb}
 use lib.Seq.{getD-set-other}
 use borrow.Author.Tests.{eqb-true, eqb-false, ne-eqb}
+use Rattle.common.specs.Limits.{mostFormulas}
 use Rattle.common.specs.Lists.{any, every, those, below}
 use Rattle.common.specs.BoolLaws.{and-cases, and-both}
 use Rattle.common.specs.Refusals.{notLoadable}
 use Rattle.common.specs.Sets.{member}
 use Rattle.policy.specs.declared.Record.{Record}
 use Rattle.policy.specs.declared.Memo.{Memo}
-use Rattle.policy.specs.Table.{Kind, formula, emptied}
-use Rattle.policy.specs.Loadable.{tableLoads, loadable}
-use Rattle.policy.specs.LoadableLaws.{table-few, loadable-table}
+use Rattle.policy.specs.Loadable.{loadable}
+use Rattle.policy.specs.LoadableLaws.{loadable-table}
 use Rattle.justification.specs.Justification.{members, candidates, least}
 use Rattle.justification.specs.declared.Question.{Question}
 use Rattle.justification.specs.Predicates.{questionRefusal}
-use Rattle.justification.specs.Walk.{known, value, noted, evaluated, formulaOf, Outcome, granted, denied, outcome, chosen, evaluatedAll, eagerly}
-use Rattle.justification.specs.Walk.{Weighed, survives, ends, tried, knownFalse, weighed, goOn, walk, tryNext, searching}
-use Rattle.justification.specs.WalkLaws.{All, all-those, all-append, every-ext, first-ext, Roomy, Grounded, all-through, all-known, agree}
-use Rattle.justification.specs.NamedLaws.{principal-named}
+use Rattle.memo.specs.Memo.{known, value, noted, evaluated, memoFor, newly}
+use Rattle.memo.specs.Walk.{formulaOf, Outcome, granted, denied, outcome, chosen, evaluatedAll, eagerly}
+use Rattle.memo.specs.Walk.{Weighed, survives, ends, tried, knownFalse, weighed, afterWeighing, walk}
+use Rattle.memo.specs.WalkLaws.{All, all-those, MemoLengths, FormulasInMemo, all-through, all-known, agree}
+use Rattle.memo.specs.StepLaws.{formulas-in-memo, lengths-for}
 use Rattle.access.specs.declared.Answer.{Answer}
-use Rattle.access.specs.Access.{memoFor, truthAt, newly, answered, refused, asked, eager, lazy}
-
--- ---- lists
-
-pub all-below : (P : ℕ → Type 0) (n : ℕ) → ((i : ℕ) → i < n → P i) → All P (below n)
-all-below P zero h = tt
-all-below P (suc n) h = all-append P (below n) (n ∷ []) (all-below P n (λ i l. h i (omega arith))) (h n (omega arith), tt)
+use Rattle.access.specs.Access.{truthAt, answered, refused, asked, eager, lazy}
 
 -- no more pass a test that is passed by fewer
 fewer-those : (p q : ℕ → Bool) → ((x : ℕ) → p x ≡ true → q x ≡ true) → (l : List ℕ) → length (those p l) ≤ length (those q l)
@@ -49,114 +43,33 @@ fewer-those p q more (x ∷ l) = go (p x) (q x) (more x) (fewer-those p q more l
     go false true f h = omega arith
     go false false f h = h
 
--- the least set depends only on which principals pass
-pub least-all : (r : Record) (k : ℕ) (a b : ℕ → Bool) → All (λ p. a p ≡ b p) (below (r .«principal_count»)) → least r k a ≡ least r k b
-unfolding least
-least-all r k a b h =
-    first-ext (λ c. every a (members r c)) (λ c. every b (members r c)) (candidates r k)
-    (λ c. every-ext a b (members r c) (all-those (λ p. a p ≡ b p) (λ p. member p c) (below (r .«principal_count»)) h))
-
-pub least-ext : (r : Record) (k : ℕ) (a b : ℕ → Bool) → ((p : ℕ) → p < r .«principal_count» → a p ≡ b p) → least r k a ≡ least r k b
-least-ext r k a b h = least-all r k a b (all-below (λ p. a p ≡ b p) (r .«principal_count») h)
-
--- ---- the memo
-
--- every principal of a record whose tables load names a formula that has a place
-pub grounded : (r : Record) → ((j : Kind) → tableLoads r j ≡ true) → Grounded r (below (r .«principal_count»))
-grounded r loads =
-    all-below (λ p. formulaOf r p < 64) (r .«principal_count»)
-    (λ p l. let (f, d) = principal-named r loads p l in let few = table-few r formula (loads formula) in omega arith)
-
-pub roomy-for : (m : Memo) (q : Question) → Roomy m → Roomy (memoFor m q)
-unfolding memoFor emptied
-roomy-for m q h = go (eqb (m .object) (q .object) && eqb (m .requestor) (q .requestor))
-  where
-    go : (b : Bool) → Roomy (cond b m (emptied (q .object) (q .requestor)))
-    go true = h
-    go false = record { knowns = refl; values = refl }
-
--- one principal more, as a loop goes
-pub evaluated-more : (truth : ℕ → Bool) (r : Record) (m : Memo) (n : ℕ)
-    → evaluatedAll truth r m (below (n + 1)) ≡ evaluated truth (evaluatedAll truth r m (below n)) (formulaOf r n)
-unfolding evaluatedAll
-evaluated-more truth r m n = rw add-one (go m (below n))
-  where
-    go : (k : Memo) (l : List ℕ) → evaluatedAll truth r k (l ++ (n ∷ [])) ≡ evaluated truth (evaluatedAll truth r k l) (formulaOf r n)
-    go k [] = refl
-    go k (p ∷ l) = go (evaluated truth k (formulaOf r p)) l
-
--- ---- truth matters only at the principals' formulas
-
-module _ (t u : ℕ → Bool) (r : Record) where
-  -- both say the same of a principal's formula
-  abbrev AtOne : ℕ → Type 0
-  AtOne p = t (formulaOf r p) ≡ u (formulaOf r p)
-
-  one-ext : (m : Memo) (f : ℕ) → t f ≡ u f → evaluated t m f ≡ evaluated u m f
-  unfolding evaluated
-  one-ext m f e = ap (λ (b : Bool). cond (known m f) m (noted m f b)) e
-
-  list-evaluated-ext : (ps : List ℕ) (m : Memo) → All AtOne ps → evaluatedAll t r m ps ≡ evaluatedAll u r m ps
-  unfolding evaluatedAll
-  list-evaluated-ext [] m a = refl
-  list-evaluated-ext (p ∷ ps) m a = rw (one-ext m (formulaOf r p) (a .0)) (list-evaluated-ext ps (evaluated u m (formulaOf r p)) (a .1))
-
-  list-tried-ext : (ps : List ℕ) (m : Memo) → All AtOne ps → tried t r m ps ≡ tried u r m ps
-  unfolding tried
-  list-tried-ext [] m a = refl
-  list-tried-ext (p ∷ ps) m a =
-      rw (one-ext m (formulaOf r p) (a .0))
-      (ap (λ (w : Weighed). cond (value n (formulaOf r p)) w (ends n)) (list-tried-ext ps n (a .1)))
-    where
-      n : Memo
-      n = evaluated u m (formulaOf r p)
-
-  module _ (same : (p : ℕ) → p < r .«principal_count» → t (formulaOf r p) ≡ u (formulaOf r p)) where
-    pub evaluated-ext : (m : Memo) → evaluatedAll t r m (below (r .«principal_count»)) ≡ evaluatedAll u r m (below (r .«principal_count»))
-    evaluated-ext m = list-evaluated-ext (below (r .«principal_count»)) m (all-below AtOne (r .«principal_count») same)
-
-    pub tried-ext : (m : Memo) (c : ℕ) → tried t r m (members r c) ≡ tried u r m (members r c)
-    tried-ext m c =
-        list-tried-ext (members r c) m
-        (all-those AtOne (λ p. member p c) (below (r .«principal_count»)) (all-below AtOne (r .«principal_count») same))
-
-    pub searching-ext : (n k : ℕ) (m : Memo) → searching n t r k m ≡ searching n u r k m
-    unfolding searching
-    searching-ext zero k m = refl
-    searching-ext (suc n) k m = go (least r k (λ p. not (knownFalse r m p))) (searching-ext n k)
-      where
-        go : (o : Option ℕ) → ((x : Memo) → searching n t r k x ≡ searching n u r k x)
-            → tryNext t r m o (searching n t r k) ≡ tryNext u r m o (searching n u r k)
-        go none ih = refl
-        go (some c) ih = λ j. goOn c (tried-ext m c j) (λ x. ih x j)
-
 -- ---- both answer the same
 
-pub record Alike (a b : Answer) : Type 0 where
+pub record SameNumberAndSet (a b : Answer) : Type 0 where
   pub number : a .number ≡ b .number
   pub set : a .set ≡ b .set
 
-answers : (r : Record) (k : Memo) (a b : Outcome) → chosen a ≡ chosen b → Alike (answered r k a) (answered r k b)
+answers : (r : Record) (k : Memo) (a b : Outcome) → chosen a ≡ chosen b → SameNumberAndSet (answered r k a) (answered r k b)
 unfolding answered
 answers r k (granted c m) (granted d n) e = record { number = refl; set = cc }
 answers r k (granted c m) (denied n) e = let z : _≡_ {A = ℕ} 0 1 = cc in absurd (omega arith)
 answers r k (denied m) (granted d n) e = let z : _≡_ {A = ℕ} 0 1 = cc in absurd (omega arith)
 answers r k (denied m) (denied n) e = record { number = refl; set = refl }
 
-either-way : (r : Record) (n : ℕ) (x y : Answer) → Alike x y → Alike (asked r n x) (asked r n y)
+either-way : (r : Record) (n : ℕ) (x y : Answer) → SameNumberAndSet x y → SameNumberAndSet (asked r n x) (asked r n y)
 either-way r n x y h = go (eqb n 0)
   where
     go : (b : Bool)
-        → Alike (cond b x (record { number = n; set = 0; evaluations = 0; rules = r })) (cond b y (record { number = n; set = 0; evaluations = 0; rules = r }))
+        → SameNumberAndSet (cond b x (record { number = n; set = 0; evaluations = 0; rules = r })) (cond b y (record { number = n; set = 0; evaluations = 0; rules = r }))
     go true = h
     go false = record { number = refl; set = refl }
 
-pub same-answer : (r : Record) (q : Question) → Grounded r (below (r .«principal_count»)) → Roomy (r .memo) → Alike (eager r q) (lazy r q)
+pub same-answer : (r : Record) (q : Question) → FormulasInMemo r (below (r .«principal_count»)) → MemoLengths (r .memo) → SameNumberAndSet (eager r q) (lazy r q)
 unfolding eager lazy
 same-answer r q all h =
     either-way r (questionRefusal r q) _ _
     (answers r before (eagerly r (q .method) (evaluatedAll (truthAt r q) r before (below (r .«principal_count»)))) (walk (truthAt r q) r before (candidates r (q .method)))
-    (agree (truthAt r q) r (q .method) before all (roomy-for (r .memo) q h)))
+    (agree (truthAt r q) r (q .method) before all (lengths-for (r .memo) q h)))
   where
     before : Memo
     before = memoFor (r .memo) q
@@ -219,7 +132,7 @@ module _ (q : ℕ → Bool) where
         (λ n. walk-within cs n a)
       where
         go : (w : Weighed) → Within (weighedLeft w) → ((n : Memo) → Within n → Within (left (walk truth r n cs)))
-            → Within (left (goOn c w (λ after. walk truth r after cs)))
+            → Within (left (afterWeighing c w (λ after. walk truth r after cs)))
         go (survives n) k ih = k
         go (ends n) k ih = ih n k
 
@@ -241,7 +154,7 @@ unfolding newly
 newly-fewer k m n h =
     fewer-those (λ f. known m f && not (known k f)) (λ f. known n f && not (known k f))
     (λ f e. let (a, b) = and-cases (known m f) (not (known k f)) e in and-both (known n f) (not (known k f)) (h f a) b)
-    (below 64)
+    (below mostFormulas)
 
 either-count : (r : Record) (n : ℕ) (x y : Answer) → x .evaluations ≤ y .evaluations → asked r n x .evaluations ≤ asked r n y .evaluations
 either-count r n x y h = go (eqb n 0)
@@ -252,15 +165,15 @@ either-count r n x y h = go (eqb n 0)
     go true = h
     go false = omega arith
 
-pub fewer-evaluations : (r : Record) (q : Question) → Grounded r (below (r .«principal_count»)) → Roomy (r .memo)
+pub fewer-evaluations : (r : Record) (q : Question) → FormulasInMemo r (below (r .«principal_count»)) → MemoLengths (r .memo)
     → lazy r q .evaluations ≤ eager r q .evaluations
 unfolding eager lazy
 fewer-evaluations r q all h =
     either-count r (questionRefusal r q) _ _
     (rw (counted r before (walk truth r before (candidates r (q .method))), counted r before (eagerly r (q .method) after), left-eagerly r (q .method) after)
     (newly-fewer before (left (walk truth r before (candidates r (q .method)))) after
-    (walk-within (known after) truth r (candidates r (q .method)) before (all-known truth r (below (r .«principal_count»)) before roomy all)
-    (all-through truth r (below (r .«principal_count»)) before roomy all .keeps))))
+    (walk-within (known after) truth r (candidates r (q .method)) before (all-known truth r (below (r .«principal_count»)) before lengths all)
+    (all-through truth r (below (r .«principal_count»)) before lengths all .keeps))))
   where
     truth : ℕ → Bool
     truth = truthAt r q
@@ -268,13 +181,13 @@ fewer-evaluations r q all h =
     before : Memo
     before = memoFor (r .memo) q
 
-    roomy : Roomy before
-    roomy = roomy-for (r .memo) q h
+    lengths : MemoLengths before
+    lengths = lengths-for (r .memo) q h
 
     after : Memo
     after = evaluatedAll truth r before (below (r .«principal_count»))
 
--- ---- of every record (the memo's type says that it is `Roomy`)
+-- ---- of every record (the memo's type says that it is `MemoLengths`)
 
 loads-when : (r : Record) (q : Question) → questionRefusal r q ≡ 0 → loadable r ≡ true
 unfolding questionRefusal
@@ -284,17 +197,17 @@ loads-when r q = go (loadable r) refl
     go true e z = e
     go false e z = let x : notLoadable ≡ 0 = sym (rw e refl) ∙ z in absurd (omega arith)
 
-module _ (r : Record) (q : Question) (room : Roomy (r .memo)) where
+module _ (r : Record) (q : Question) (room : MemoLengths (r .memo)) where
   refused-both : questionRefusal r q ≢ 0 → (eager r q ≡ refused (questionRefusal r q) r) × (lazy r q ≡ refused (questionRefusal r q) r)
   unfolding eager lazy
   refused-both h = (rw (ne-eqb (questionRefusal r q) 0 h) refl, rw (ne-eqb (questionRefusal r q) 0 h) refl)
 
   -- FROM EQUAL RECORDS both forms return the same number and set
-  pub same-always : Alike (eager r q) (lazy r q)
+  pub same-always : SameNumberAndSet (eager r q) (lazy r q)
   same-always = go (eqb (questionRefusal r q) 0) refl
     where
-      go : (b : Bool) → eqb (questionRefusal r q) 0 ≡ b → Alike (eager r q) (lazy r q)
-      go true e = same-answer r q (grounded r (loadable-table r (loads-when r q (eqb-true (questionRefusal r q) 0 e)))) room
+      go : (b : Bool) → eqb (questionRefusal r q) 0 ≡ b → SameNumberAndSet (eager r q) (lazy r q)
+      go true e = same-answer r q (formulas-in-memo r (loadable-table r (loads-when r q (eqb-true (questionRefusal r q) 0 e)))) room
       go false e =
           let (x, y) = refused-both (eqb-false (questionRefusal r q) 0 e) in
           record { number = ap (λ (a : Answer). a .number) (x ∙ sym y); set = ap (λ (a : Answer). a .set) (x ∙ sym y) }
@@ -304,7 +217,7 @@ module _ (r : Record) (q : Question) (room : Roomy (r .memo)) where
   lazy-at-most = go (eqb (questionRefusal r q) 0) refl
     where
       go : (b : Bool) → eqb (questionRefusal r q) 0 ≡ b → lazy r q .evaluations ≤ eager r q .evaluations
-      go true e = fewer-evaluations r q (grounded r (loadable-table r (loads-when r q (eqb-true (questionRefusal r q) 0 e)))) room
+      go true e = fewer-evaluations r q (formulas-in-memo r (loadable-table r (loads-when r q (eqb-true (questionRefusal r q) 0 e)))) room
       go false e =
           let (x, y) = refused-both (eqb-false (questionRefusal r q) 0 e) in
           let u : lazy r q .evaluations ≡ eager r q .evaluations = ap (λ (a : Answer). a .evaluations) (y ∙ sym x) in

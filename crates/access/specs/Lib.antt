@@ -1,5 +1,4 @@
 pub mod Access
-pub mod Parts
 pub mod AccessLaws
-pub mod Truthful
-pub mod TruthLaws
+pub mod CorrectMemo
+pub mod CorrectMemoLaws

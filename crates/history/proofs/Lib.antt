@@ -1,3 +1,3 @@
-pub mod Arms
+pub mod AnswerCases
 pub mod Stores
 pub mod Replaying

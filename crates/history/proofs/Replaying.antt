@@ -9,13 +9,13 @@ use lib.ListN.{length, take, drop, length-append, length-drop}
 use lib.Seq.{take-append-seam, drop-append-add, drop-drop}
 use Rattle.policy.specs.declared.Record.{Record}
 use Rattle.access.specs.declared.Answer.{Answer}
-use Rattle.history.specs.Replay.{answerTo, answerOctets, requestAt, leftAfter, replies, answeredCount, bufferAfter}
+use Rattle.history.specs.Replay.{answerTo, answerOctets, listedCallAt, leftAfter, replies, answeredCount, bufferAfter}
 
 length-replies : (r : Record) (calls : List ℕ) (n : ℕ) → length (replies r calls n) ≡ 5 * n
 unfolding replies
 length-replies r calls zero = refl
 length-replies r calls (suc n) =
-    let a = answerTo (leftAfter r calls n) (requestAt calls n) in
+    let a = answerTo (leftAfter r calls n) (listedCallAt calls n) in
     omega (arith, length-replies r calls n, length-append (replies r calls n) (answerOctets a))
 
 -- i of n requests have been answered
@@ -47,10 +47,10 @@ module _ {calls buffer₀ : List ℕ} {r₀ : Record} {n : ℕ} {buffer : List �
 
   -- what is answered next
   abbrev a : Answer
-  a = answerTo (leftAfter r₀ calls i) (requestAt calls i)
+  a = answerTo (leftAfter r₀ calls i) (listedCallAt calls i)
 
   -- one more
-  pub replaying-more : (got : Answer) {after : List ℕ} → i < n → got ≡ answerTo r (requestAt calls i)
+  pub replaying-more : (got : Answer) {after : List ℕ} → i < n → got ≡ answerTo r (listedCallAt calls i)
       → after ≡ take (5 * i) buffer ++ (answerOctets got ++ drop (5 * i + 5) buffer) → Replaying calls buffer₀ r₀ n after (got .rules) (i + 1)
   unfolding replies leftAfter
   replaying-more got {after} l e f =
@@ -65,7 +65,7 @@ module _ {calls buffer₀ : List ℕ} {r₀ : Record} {n : ℕ} {buffer : List �
       }
     where
       told : got ≡ a
-      told = e ∙ ap (λ (x : Record). answerTo x (requestAt calls i)) (w .left)
+      told = e ∙ ap (λ (x : Record). answerTo x (listedCallAt calls i)) (w .left)
 
       m : 5 * i + 5 ≡ 5 * (i + 1)
       m = omega arith

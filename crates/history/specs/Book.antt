@@ -15,7 +15,7 @@ use Rattle.policy.specs.Edits.{added, removed}
 use Rattle.formula.specs.Formula.{isUser, holdsOn}
 use Rattle.justification.specs.declared.Question.{Question}
 use Rattle.justification.specs.Justification.{least}
-use Rattle.justification.specs.Walk.{formulaOf}
+use Rattle.memo.specs.Walk.{formulaOf}
 use Rattle.access.specs.declared.Answer.{Answer}
 use Rattle.access.specs.Access.{eager, lazy}
 
@@ -25,11 +25,11 @@ pub data Call : Type 0 where
   askEagerly askLazily : Question → Call
 
 -- what a call answers: its number, and the set (empty for an edit)
-pub record Reply : Type 0 where
+pub record BookAnswer : Type 0 where
   pub number : ℕ
   pub set : ℕ
 
-abbrev pub plain : ℕ → Reply
+abbrev pub plain : ℕ → BookAnswer
 plain n = record { number = n; set = 0 }
 
 -- ---- the book: a set of edges (label, from, to), beside the bundle's record b, of which all but the edges stays
@@ -37,17 +37,17 @@ plain n = record { number = n; set = 0 }
 abbrev pub Book : Type 0
 Book = List (List ℕ)
 
-abbrev pub has : Book → List ℕ → Bool
-has book e = any (same e) book
+abbrev pub holdsEdge : Book → List ℕ → Bool
+holdsEdge book e = any (same e) book
 
--- add: 10 the label is above 15 or an object isn't below N; 11 the edge is in the book; 13 the book has 512 edges
+-- add: 10 the label is above 15 or an object isn't below N; 11 the edge is in the book; 13 the book holdsEdge 512 edges
 abbrev pub addRefusal : Record → Book → ℕ → ℕ → ℕ → ℕ
 addRefusal b book l x y =
-    first (cause edgeOutOfRange (not (edgeInRange (b .objects) l x y)) ∷ cause edgePresent (has book (l ∷ x ∷ y ∷ [])) ∷ cause edgesFull (leb 512 (length book)) ∷ [])
+    first (cause edgeOutOfRange (not (edgeInRange (b .objects) l x y)) ∷ cause edgePresent (holdsEdge book (l ∷ x ∷ y ∷ [])) ∷ cause edgesFull (leb 512 (length book)) ∷ [])
 
 -- remove: 10; 12 the edge isn't in the book
 abbrev pub removeRefusal : Record → Book → ℕ → ℕ → ℕ → ℕ
-removeRefusal b book l x y = first (cause edgeOutOfRange (not (edgeInRange (b .objects) l x y)) ∷ cause edgeAbsent (not (has book (l ∷ x ∷ y ∷ []))) ∷ [])
+removeRefusal b book l x y = first (cause edgeOutOfRange (not (edgeInRange (b .objects) l x y)) ∷ cause edgeAbsent (not (holdsEdge book (l ∷ x ∷ y ∷ []))) ∷ [])
 
 abbrev pub askRefusal : Record → Question → ℕ
 askRefusal b q =
@@ -58,7 +58,7 @@ askRefusal b q =
     ∷ [])
 
 -- with none denied: 17, empty set; otherwise granted: 0 and the least of them
-abbrev pub verdict : Option ℕ → Reply
+abbrev pub verdict : Option ℕ → BookAnswer
 verdict none = plain noSet
 verdict (some c) = record { number = 0; set = c }
 
@@ -67,34 +67,34 @@ abbrev pub enabledIn : Record → Book → Question → ℕ → Bool
 enabledIn b book q p = holdsOn b book (formulaOf b p) (q .object) (q .object) (q .requestor)
 
 -- the least consistent set of principals enabled in the book's graph that meets the guard
-abbrev pub ask : Record → Book → Question → Reply
+abbrev pub ask : Record → Book → Question → BookAnswer
 ask b book q = cond (eqb (askRefusal b q) 0) (verdict (least b (q .method) (enabledIn b book q))) (plain (askRefusal b q))
 
 -- the edge goes in, or out, unless the edit is refused; a question leaves the book
-unfoldable pub booked : Record → Book → Call → Book
-booked b book (add l x y) = cond (eqb (addRefusal b book l x y) 0) ((l ∷ x ∷ y ∷ []) ∷ book) book
-booked b book (remove l x y) = cond (eqb (removeRefusal b book l x y) 0) (those (λ e. not (same (l ∷ x ∷ y ∷ []) e)) book) book
-booked b book (askEagerly q) = book
-booked b book (askLazily q) = book
+unfoldable pub bookAfterCall : Record → Book → Call → Book
+bookAfterCall b book (add l x y) = cond (eqb (addRefusal b book l x y) 0) ((l ∷ x ∷ y ∷ []) ∷ book) book
+bookAfterCall b book (remove l x y) = cond (eqb (removeRefusal b book l x y) 0) (those (λ e. not (same (l ∷ x ∷ y ∷ []) e)) book) book
+bookAfterCall b book (askEagerly q) = book
+bookAfterCall b book (askLazily q) = book
 
-unfoldable pub bookReply : Record → Book → Call → Reply
-bookReply b book (add l x y) = plain (addRefusal b book l x y)
-bookReply b book (remove l x y) = plain (removeRefusal b book l x y)
-bookReply b book (askEagerly q) = ask b book q
-bookReply b book (askLazily q) = ask b book q
+unfoldable pub bookAnswer : Record → Book → Call → BookAnswer
+bookAnswer b book (add l x y) = plain (addRefusal b book l x y)
+bookAnswer b book (remove l x y) = plain (removeRefusal b book l x y)
+bookAnswer b book (askEagerly q) = ask b book q
+bookAnswer b book (askLazily q) = ask b book q
 
 -- the book after a list of calls
 unfoldable pub bookAfter : Record → Book → List Call → Book
 bookAfter b book [] = book
-bookAfter b book (c ∷ cs) = bookAfter b (booked b book c) cs
+bookAfter b book (c ∷ cs) = bookAfter b (bookAfterCall b book c) cs
 
 -- ---- the engine: each call goes to the record that the call before it left
 
-abbrev pub ofEdit : Edited → Reply
-ofEdit a = plain (a .number)
+abbrev pub editNumber : Edited → BookAnswer
+editNumber a = plain (a .number)
 
-abbrev pub ofAnswer : Answer → Reply
-ofAnswer a = record { number = a .number; set = a .set }
+abbrev pub numberAndSet : Answer → BookAnswer
+numberAndSet a = record { number = a .number; set = a .set }
 
 unfoldable pub engineLeaves : Record → Call → Record
 engineLeaves r (add l x y) = added r l x y .rules
@@ -102,11 +102,11 @@ engineLeaves r (remove l x y) = removed r l x y .rules
 engineLeaves r (askEagerly q) = eager r q .rules
 engineLeaves r (askLazily q) = lazy r q .rules
 
-unfoldable pub engineReply : Record → Call → Reply
-engineReply r (add l x y) = ofEdit (added r l x y)
-engineReply r (remove l x y) = ofEdit (removed r l x y)
-engineReply r (askEagerly q) = ofAnswer (eager r q)
-engineReply r (askLazily q) = ofAnswer (lazy r q)
+unfoldable pub engineAnswer : Record → Call → BookAnswer
+engineAnswer r (add l x y) = editNumber (added r l x y)
+engineAnswer r (remove l x y) = editNumber (removed r l x y)
+engineAnswer r (askEagerly q) = numberAndSet (eager r q)
+engineAnswer r (askLazily q) = numberAndSet (lazy r q)
 
 unfoldable pub engineAfter : Record → List Call → Record
 engineAfter r [] = r

@@ -11,17 +11,19 @@ use Rattle.formula.specs.Formula.{meaning, trueBelow, holdsOn, holds}
 use Rattle.justification.specs.declared.Question.{Question}
 use Rattle.justification.specs.Justification.{demarcationHas, have, meets, consistent, allSets, candidates, least}
 use Rattle.justification.specs.Predicates.{questionRefusal, isEnabled, liberal, strict}
-use Rattle.justification.specs.Walk.{evaluated, evaluatedAll, eagerly, tried, weighed, walk}
+use Rattle.memo.specs.Memo.{evaluated}
+use Rattle.memo.specs.Walk.{evaluatedAll, eagerly, tried, weighed, walk}
 use Rattle.access.specs.declared.Answer.{Answer}
-use Rattle.access.specs.Access.{memoFor, newly, answered, eager, lazy}
+use Rattle.memo.specs.Memo.{memoFor, newly}
+use Rattle.access.specs.Access.{answered, eager, lazy}
 use Rattle.reading.specs.Loading.{load}
 use Rattle.loading.specs.Examples.{computing}
 use Rattle.loading.specs.Crown.{crown}
 
 -- what a proof by computation opens, beside what loading opens
-unfoldable tabling : Unit {0}
+unfoldable computing-table : Unit {0}
 unfolding computing changed withMemo tableLoads pairsLoad loadable removed meaning trueBelow holdsOn holds demarcationHas have meets consistent allSets candidates least questionRefusal isEnabled liberal strict evaluated evaluatedAll eagerly tried weighed walk memoFor newly answered eager lazy
-tabling = tt
+computing-table = tt
 
 -- a fresh load
 abbrev pub fresh : Record
@@ -51,6 +53,6 @@ pub record CrownTable : Type 0 where
 
 -- THE CROWN TABLE
 pub crown-table : CrownTable
-unfolding tabling
+unfolding computing-table
 crown-table =
     record { loads = refl; a = refl; b = refl; c = refl; d = refl; e = refl; f = refl; g = refl; h = refl; i = refl; j = refl; k = refl }

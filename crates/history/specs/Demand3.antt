@@ -18,11 +18,11 @@ use Rattle.justification.specs.Justification.{members, meets, consistent}
 use Rattle.reading.specs.Loading.{load}
 use Rattle.access.specs.declared.Answer.{Answer}
 use Rattle.access.specs.Access.{eager, lazy}
-use Rattle.history.specs.Book.{Call, add, remove, askEagerly, askLazily, Book, has, enabledIn, booked, engineLeaves}
+use Rattle.history.specs.Book.{Call, add, remove, askEagerly, askLazily, Book, holdsEdge, enabledIn, bookAfterCall, engineLeaves}
 
 -- the book changes: some edge is in the one and not in the other
 abbrev pub Changes : Book → Book → Type 0
-Changes before after = (e : List ℕ) × (has before e ≢ has after e)
+Changes before after = (e : List ℕ) × (holdsEdge before e ≢ holdsEdge after e)
 
 -- "each edit is accepted exactly when it changes the documents' edge book"; a refused one changes nothing
 pub record EditHolds (before after : Book) (number : ℕ) (r left : Record) : Type 0 where
@@ -36,18 +36,18 @@ pub record Known (b : Record) (q : Question) : Type 0 where
   pub user : isUser b (q .requestor) ≡ true
 
 -- "[a] set of grounds enabled in the graph of that book at that point [that] is consistent and meets the guard": the principals that are members of c
-pub record Will (b : Record) (book : Book) (q : Question) (c : ℕ) : Type 0 where
+pub record Satisfies (b : Record) (book : Book) (q : Question) (c : ℕ) : Type 0 where
   pub grounds : c < 2 ^ (b .«principal_count»)
   pub enabled : (p : ℕ) → In p c → enabledIn b book q p ≡ true
   pub consistent : consistent b c ≡ true
   pub guard : meets b (q .method) (members b c) ≡ true
 
 -- "Each question with a known method, object and user is denied exactly when no set .. will do. Otherwise it returns such a set, the least in the documents' order:
--- every other such set has at least as many members", and of those with as many none has a smaller number (`Before`). A question that is refused changes nothing.
+-- every other such set holdsEdge at least as many members", and of those with as many none holdsEdge a smaller number (`Before`). A question that is refused changes nothing.
 pub record QuestionHolds (b : Record) (book : Book) (q : Question) (r : Record) (a : Answer) : Type 0 where
-  pub denied : Known b q → ((a .number ≡ noSet) ↔ ((c : ℕ) → Will b book q c → ⊥))
+  pub denied : Known b q → ((a .number ≡ noSet) ↔ ((c : ℕ) → Satisfies b book q c → ⊥))
   pub empty : Known b q → a .number ≡ noSet → a .set ≡ 0
-  pub granted : Known b q → a .number ≢ noSet → (a .number ≡ 0) × Will b book q (a .set) × ((c : ℕ) → Will b book q c → Before (a .set) c)
+  pub granted : Known b q → a .number ≢ noSet → (a .number ≡ 0) × Satisfies b book q (a .set) × ((c : ℕ) → Satisfies b book q c → Before (a .set) c)
   pub refused : (Known b q → ⊥) → (a .rules ≡ r) × (a .set ≡ 0) × (a .number ≢ 0)
 
 -- "Eager and lazy forms of one question, put at the same point, return the same set."
@@ -57,15 +57,15 @@ pub record SameSet (r : Record) (q : Question) : Type 0 where
 
 -- what is said of one call, put to the record r beside the book
 abbrev pub CallHolds : Record → Book → Record → Call → Type 0
-CallHolds b book r (add l x y) = EditHolds book (booked b book (add l x y)) (added r l x y .number) r (added r l x y .rules)
-CallHolds b book r (remove l x y) = EditHolds book (booked b book (remove l x y)) (removed r l x y .number) r (removed r l x y .rules)
+CallHolds b book r (add l x y) = EditHolds book (bookAfterCall b book (add l x y)) (added r l x y .number) r (added r l x y .rules)
+CallHolds b book r (remove l x y) = EditHolds book (bookAfterCall b book (remove l x y)) (removed r l x y .number) r (removed r l x y .rules)
 CallHolds b book r (askEagerly q) = QuestionHolds b book q r (eager r q) × SameSet r q
 CallHolds b book r (askLazily q) = QuestionHolds b book q r (lazy r q) × SameSet r q
 
 -- of a whole list: of its first call, and of the others on the record that it left, beside the book after it
 abbrev pub ListHolds : Record → Book → Record → List Call → Type 0
 ListHolds b book r [] = Unit {0}
-ListHolds b book r (c ∷ cs) = CallHolds b book r c × ListHolds b (booked b book c) (engineLeaves r c) cs
+ListHolds b book r (c ∷ cs) = CallHolds b book r c × ListHolds b (bookAfterCall b book c) (engineLeaves r c) cs
 
 -- of every text that loads, and every list of calls; the book starts with the edges of the edge lines
 abbrev pub Demand3 : Type 0

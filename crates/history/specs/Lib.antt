@@ -1,8 +1,8 @@
 pub mod Book
-pub mod Follows
+pub mod Agrees
 pub mod SizedLaws
-pub mod EditFollows
-pub mod AskFollows
+pub mod EditAgrees
+pub mod AskAgrees
 pub mod Demand3
 pub mod Theorem
 pub mod Replay

@@ -20,10 +20,11 @@ use Rattle.policy.specs.Edits.{inserted, without, memoLeft, edited, addRefusal,
 use Rattle.policy.specs.EditLaws.{adds, added-loadable, removes, removed-loadable}
 use Rattle.justification.specs.Justification.{candidates}
 use Rattle.justification.specs.Predicates.{questionRefusal}
-use Rattle.justification.specs.Walk.{Outcome, granted, denied, evaluatedAll, eagerly, walk}
-use Rattle.access.specs.Access.{memoFor, truthAt, answered, refused, asked, eager, lazy}
+use Rattle.memo.specs.Walk.{Outcome, granted, denied, evaluatedAll, eagerly, walk}
+use Rattle.memo.specs.Memo.{memoFor}
+use Rattle.access.specs.Access.{truthAt, answered, refused, asked, eager, lazy}
 use Rattle.history.specs.Book.{add, remove, askEagerly, askLazily}
-use Rattle.history.specs.Replay.{Request, call, liberally, strictly, unknown, answerTo}
+use Rattle.history.specs.Replay.{ListedCall, call, liberally, strictly, unknown, answerTo}
 
 -- the memo does not matter: each table is taken as before
 module _ (r : Record) (m : Memo) where
@@ -106,7 +107,7 @@ asked-loads r n before x = go (eqb n 0) refl
     go true e = ap (λ (b : Bool). loadable (cond b (answered r before x) (refused n r) .rules)) e ∙ answered-loads r before x
     go false e = ap (λ (b : Bool). loadable (cond b (answered r before x) (refused n r) .rules)) e
 
-pub answer-loads : (r : Record) (x : Request) → loadable (answerTo r x .rules) ≡ loadable r
+pub answer-loads : (r : Record) (x : ListedCall) → loadable (answerTo r x .rules) ≡ loadable r
 unfolding answerTo eager lazy
 answer-loads r (call (add l x y)) = add-loads r l x y
 answer-loads r (call (remove l x y)) = remove-loads r l x y

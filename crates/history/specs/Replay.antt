@@ -18,17 +18,17 @@ use Rattle.access.specs.Access.{eager, lazy}
 use Rattle.history.specs.Book.{Call, add, remove, askEagerly, askLazily}
 
 -- a request: a call of demand 3, one of the predicates, or no kind that there is
-pub data Request : Type 0 where
-  call : Call → Request
-  liberally strictly : Question → Request
-  unknown : Request
+pub data ListedCall : Type 0 where
+  call : Call → ListedCall
+  liberally strictly : Question → ListedCall
+  unknown : ListedCall
 
 abbrev pub questionOf : ℕ → ℕ → ℕ → Question
 questionOf m o s = record { method = m; object = o; requestor = s }
 
 -- by its kind octet: 0 add, 1 remove, 2 eager, 3 lazy, 4 liberal, 5 strict
-abbrev pub requestOf : ℕ → ℕ → ℕ → ℕ → Request
-requestOf kind a b c =
+abbrev pub listedCallOf : ℕ → ℕ → ℕ → ℕ → ListedCall
+listedCallOf kind a b c =
     cond (eqb kind 0) (call (add a b c))
     (cond (eqb kind 1) (call (remove a b c))
     (cond (eqb kind 2) (call (askEagerly (questionOf a b c)))
@@ -37,21 +37,21 @@ requestOf kind a b c =
     (cond (eqb kind 5) (strictly (questionOf a b c))
     unknown)))))
 
-abbrev pub ofEdit : Edited → Answer
-ofEdit e = record { number = e .number; set = 0; evaluations = 0; rules = e .rules }
+abbrev pub editAnswer : Edited → Answer
+editAnswer e = record { number = e .number; set = 0; evaluations = 0; rules = e .rules }
 
 -- 1 for yes
-abbrev pub ofVerdict : Record → Verdict → Answer
-ofVerdict r v = record { number = v .number; set = cond (v .yes) 1 0; evaluations = 0; rules = r }
+abbrev pub verdictAnswer : Record → Verdict → Answer
+verdictAnswer r v = record { number = v .number; set = cond (v .yes) 1 0; evaluations = 0; rules = r }
 
 -- what a request answers, and the record that it leaves; a kind above 5 is answered with 4 and changes nothing
-unfoldable pub answerTo : Record → Request → Answer
-answerTo r (call (add l x y)) = ofEdit (added r l x y)
-answerTo r (call (remove l x y)) = ofEdit (removed r l x y)
+unfoldable pub answerTo : Record → ListedCall → Answer
+answerTo r (call (add l x y)) = editAnswer (added r l x y)
+answerTo r (call (remove l x y)) = editAnswer (removed r l x y)
 answerTo r (call (askEagerly q)) = eager r q
 answerTo r (call (askLazily q)) = lazy r q
-answerTo r (liberally q) = ofVerdict r (liberal r q)
-answerTo r (strictly q) = ofVerdict r (strict r q)
+answerTo r (liberally q) = verdictAnswer r (liberal r q)
+answerTo r (strictly q) = verdictAnswer r (strict r q)
 answerTo r unknown = record { number = wrongKind; set = 0; evaluations = 0; rules = r }
 
 -- an answer's octets: number, set in 3 octets, evaluations
@@ -59,17 +59,17 @@ abbrev pub answerOctets : Answer → List ℕ
 answerOctets a = (a .number ∷ []) ++ (inOctets 3 (a .set) ++ (a .evaluations ∷ []))
 
 -- request i of the octets
-abbrev pub requestAt : List ℕ → ℕ → Request
-requestAt calls i = requestOf (at calls (4 * i)) (at calls (4 * i + 1)) (at calls (4 * i + 2)) (at calls (4 * i + 3))
+abbrev pub listedCallAt : List ℕ → ℕ → ListedCall
+listedCallAt calls i = listedCallOf (at calls (4 * i)) (at calls (4 * i + 1)) (at calls (4 * i + 2)) (at calls (4 * i + 3))
 
 -- the record after the first n requests, and the octets of their answers
 unfoldable pub leftAfter : Record → List ℕ → ℕ → Record
 leftAfter r calls zero = r
-leftAfter r calls (suc n) = answerTo (leftAfter r calls n) (requestAt calls n) .rules
+leftAfter r calls (suc n) = answerTo (leftAfter r calls n) (listedCallAt calls n) .rules
 
 unfoldable pub replies : Record → List ℕ → ℕ → List ℕ
 replies r calls zero = []
-replies r calls (suc n) = replies r calls n ++ answerOctets (answerTo (leftAfter r calls n) (requestAt calls n))
+replies r calls (suc n) = replies r calls n ++ answerOctets (answerTo (leftAfter r calls n) (listedCallAt calls n))
 
 -- as many requests are answered as are whole and fit; bytes past the answers stay
 abbrev pub answeredCount : List ℕ → List ℕ → ℕ

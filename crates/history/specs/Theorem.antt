@@ -30,14 +30,14 @@ use Rattle.reading.specs.Loading.{load}
 use Rattle.reading.specs.LoadingLaws.{load-good}
 use Rattle.access.specs.declared.Answer.{Answer}
 use Rattle.access.specs.Access.{refused, eager, lazy}
-use Rattle.access.specs.Truthful.{Truthful}
-use Rattle.justification.specs.WalkLaws.{Roomy}
+use Rattle.access.specs.CorrectMemo.{CorrectMemo}
+use Rattle.memo.specs.WalkLaws.{MemoLengths}
 use Rattle.search.specs.Search.{Before}
-use Rattle.history.specs.Book.{Call, add, remove, askEagerly, askLazily, Book, Reply, has, addRefusal, removeRefusal, askRefusal, verdict, enabledIn, ask, booked, ofAnswer, engineLeaves}
-use Rattle.history.specs.Follows.{Follows}
-use Rattle.history.specs.EditFollows.{distinct-rows, add-number, add-follows, add-refused, remove-number, remove-follows, remove-refused, emptied-roomy, emptied-truthful, without-has}
-use Rattle.history.specs.AskFollows.{refusal-is, eager-reply, eager-follows, eager-refused, lazy-reply, lazy-follows, lazy-refused}
-use Rattle.history.specs.Demand3.{Changes, EditHolds, Known, Will, QuestionHolds, SameSet, CallHolds, ListHolds, Demand3}
+use Rattle.history.specs.Book.{Call, add, remove, askEagerly, askLazily, Book, BookAnswer, holdsEdge, addRefusal, removeRefusal, askRefusal, verdict, enabledIn, ask, bookAfterCall, numberAndSet, engineLeaves}
+use Rattle.history.specs.Agrees.{Agrees}
+use Rattle.history.specs.EditAgrees.{distinct-rows, add-number, add-agrees, add-refused, remove-number, remove-agrees, remove-refused, emptied-lengths, emptied-correct, without-holds}
+use Rattle.history.specs.AskAgrees.{refusal-is, eager-answer, eager-agrees, eager-refused, lazy-answer, lazy-agrees, lazy-refused}
+use Rattle.history.specs.Demand3.{Changes, EditHolds, Known, Satisfies, QuestionHolds, SameSet, CallHolds, ListHolds, Demand3}
 
 -- ---- edits
 
@@ -46,7 +46,7 @@ edit-holds : (before after : Book) (n number : ℕ) (r left : Record) → number
     → EditHolds before after number r left
 edit-holds before after n number r left e changes stays keeps =
     record {
-      accepted = (λ z. changes (sym e ∙ z), λ (d, f). decide n e (λ x. absurd (f (ap (λ (k : Book). has k d) (sym (stays x))))));
+      accepted = (λ z. changes (sym e ∙ z), λ (d, f). decide n e (λ x. absurd (f (ap (λ (k : Book). holdsEdge k d) (sym (stays x))))));
       refused = λ x. (keeps (λ z. x (e ∙ z)), stays (λ z. x (e ∙ z)));
     }
   where
@@ -72,35 +72,35 @@ present true y e = absurd (omega arith)
 present false true e = refl
 present false false e = absurd (omega arith)
 
-module _ (b : Record) (book : Book) (r : Record) (h : Follows b book r) where
+module _ (b : Record) (book : Book) (r : Record) (h : Agrees b book r) where
   module _ (l x y : ℕ) where
     abbrev it : List ℕ
     it = l ∷ x ∷ y ∷ []
 
     add-holds : CallHolds b book r (add l x y)
-    unfolding booked
+    unfolding bookAfterCall
     add-holds =
         edit-holds book (cond (eqb (addRefusal b book l x y) 0) (it ∷ book) book) (addRefusal b book l x y) (added r l x y .number) r (added r l x y .rules) (add-number b book r h l x y)
         (λ z. (
           it,
           λ e.
-              let no : has book it ≡ false = absent (not (edgeInRange (b .objects) l x y)) (has book it) (leb 512 (length book)) z in
-              let now : has (cond (eqb (addRefusal b book l x y) 0) (it ∷ book) book) it ≡ true = rw (eq-eqb (addRefusal b book l x y) 0 z) (or-left (same it it) (has book it) (same-self it)) in
+              let no : holdsEdge book it ≡ false = absent (not (edgeInRange (b .objects) l x y)) (holdsEdge book it) (leb 512 (length book)) z in
+              let now : holdsEdge (cond (eqb (addRefusal b book l x y) 0) (it ∷ book) book) it ≡ true = rw (eq-eqb (addRefusal b book l x y) 0 z) (or-left (same it it) (holdsEdge book it) (same-self it)) in
               false≢true (sym no ∙ e ∙ now),
         ))
         (λ z. rw (ne-eqb (addRefusal b book l x y) 0 z) refl)
         (λ z. add-refused b book r h l x y (ne-eqb (addRefusal b book l x y) 0 z))
 
     remove-holds : CallHolds b book r (remove l x y)
-    unfolding booked
+    unfolding bookAfterCall
     remove-holds =
         edit-holds book (cond (eqb (removeRefusal b book l x y) 0) (without it book) book) (removeRefusal b book l x y) (removed r l x y .number) r (removed r l x y .rules)
         (remove-number b book r h l x y)
         (λ z. (
           it,
           λ e.
-              let was : has book it ≡ true = present (not (edgeInRange (b .objects) l x y)) (has book it) z in
-              let now : has (cond (eqb (removeRefusal b book l x y) 0) (without it book) book) it ≡ false = rw (eq-eqb (removeRefusal b book l x y) 0 z) (without-has it it book ∙ rw (same-self it) refl) in
+              let was : holdsEdge book it ≡ true = present (not (edgeInRange (b .objects) l x y)) (holdsEdge book it) z in
+              let now : holdsEdge (cond (eqb (removeRefusal b book l x y) 0) (without it book) book) it ≡ false = rw (eq-eqb (removeRefusal b book l x y) 0 z) (without-holds it it book ∙ rw (same-self it) refl) in
               false≢true (sym now ∙ sym e ∙ was),
         ))
         (λ z. rw (ne-eqb (removeRefusal b book l x y) 0 z) refl)
@@ -126,9 +126,9 @@ module _ (b : Record) (book : Book) (r : Record) (h : Follows b book r) where
     passes : ℕ → Bool
     passes c = (consistent b c && meets b (q .method) (members b c)) && every (enabledIn b book q) (members b c)
 
-    passes-will : (c : ℕ) → c < 2 ^ (b .«principal_count») → passes c ≡ true → Will b book q c
+    passes-satisfies : (c : ℕ) → c < 2 ^ (b .«principal_count») → passes c ≡ true → Satisfies b book q c
     unfolding passes
-    passes-will c l e =
+    passes-satisfies c l e =
         let (x, en) = and-cases (consistent b c && meets b (q .method) (members b c)) _ e in
         let (co, me) = and-cases (consistent b c) _ x in
         record {
@@ -138,9 +138,9 @@ module _ (b : Record) (book : Book) (r : Record) (h : Follows b book r) where
           guard = me;
         }
 
-    will-passes : (c : ℕ) → Will b book q c → passes c ≡ true
+    satisfies-passes : (c : ℕ) → Satisfies b book q c → passes c ≡ true
     unfolding passes
-    will-passes c w =
+    satisfies-passes c w =
         and-both (consistent b c && meets b (q .method) (members b c)) _ (and-both (consistent b c) _ (w .consistent) (w .guard))
         (all-of (enabledIn b book q) (λ p. member p c) (b .«principal_count») .1 (λ p l e. w .enabled p (member-in e)))
 
@@ -150,12 +150,12 @@ module _ (b : Record) (book : Book) (r : Record) (h : Follows b book r) where
 
     -- what the verdict of a least set says
     module _ (found : Option ℕ) (is : IsLeast (b .«principal_count») passes found) where
-      verdict-denied : (verdict found .number ≡ noSet) ↔ ((c : ℕ) → Will b book q c → ⊥)
+      verdict-denied : (verdict found .number ≡ noSet) ↔ ((c : ℕ) → Satisfies b book q c → ⊥)
       verdict-denied = go found is
         where
-          go : (f : Option ℕ) → IsLeast (b .«principal_count») passes f → ((verdict f .number ≡ noSet) ↔ ((c : ℕ) → Will b book q c → ⊥))
-          go none n = (λ e c w. n c (w .grounds) (will-passes c w), λ f. refl)
-          go (some c) n = (λ e. absurd (omega arith), λ f. absurd (f c (passes-will c (n .0) (n .1))))
+          go : (f : Option ℕ) → IsLeast (b .«principal_count») passes f → ((verdict f .number ≡ noSet) ↔ ((c : ℕ) → Satisfies b book q c → ⊥))
+          go none n = (λ e c w. n c (w .grounds) (satisfies-passes c w), λ f. refl)
+          go (some c) n = (λ e. absurd (omega arith), λ f. absurd (f c (passes-satisfies c (n .0) (n .1))))
 
       verdict-empty : verdict found .number ≡ noSet → verdict found .set ≡ 0
       verdict-empty = go found
@@ -164,40 +164,40 @@ module _ (b : Record) (book : Book) (r : Record) (h : Follows b book r) where
           go none e = refl
           go (some c) e = absurd (omega arith)
 
-      verdict-granted : verdict found .number ≢ noSet → (verdict found .number ≡ 0) × Will b book q (verdict found .set) × ((c : ℕ) → Will b book q c → Before (verdict found .set) c)
+      verdict-granted : verdict found .number ≢ noSet → (verdict found .number ≡ 0) × Satisfies b book q (verdict found .set) × ((c : ℕ) → Satisfies b book q c → Before (verdict found .set) c)
       verdict-granted = go found is
         where
           go : (f : Option ℕ) → IsLeast (b .«principal_count») passes f
-              → verdict f .number ≢ noSet → (verdict f .number ≡ 0) × Will b book q (verdict f .set) × ((c : ℕ) → Will b book q c → Before (verdict f .set) c)
+              → verdict f .number ≢ noSet → (verdict f .number ≡ 0) × Satisfies b book q (verdict f .set) × ((c : ℕ) → Satisfies b book q c → Before (verdict f .set) c)
           go none n x = absurd (x refl)
-          go (some c) n x = (refl, passes-will c (n .0) (n .1), λ d w. n .2 d (w .grounds) (will-passes d w))
+          go (some c) n x = (refl, passes-satisfies c (n .0) (n .1), λ d w. n .2 d (w .grounds) (satisfies-passes d w))
 
     -- of any answer that is the book's reply
-    question-holds : (a : Answer) → ofAnswer a ≡ ask b book q → (askRefusal b q ≢ 0 → a ≡ refused (askRefusal b q) r) → QuestionHolds b book q r a
+    question-holds : (a : Answer) → numberAndSet a ≡ ask b book q → (askRefusal b q ≢ 0 → a ≡ refused (askRefusal b q) r) → QuestionHolds b book q r a
     question-holds a e other =
         record {
-          denied = λ k. subst (λ (v : Reply). (v .number ≡ noSet) ↔ ((c : ℕ) → Will b book q c → ⊥)) (sym (is-verdict k)) (verdict-denied (least b (q .method) (enabledIn b book q)) least-passes);
-          empty = λ k. subst (λ (v : Reply). v .number ≡ noSet → v .set ≡ 0) (sym (is-verdict k)) (verdict-empty (least b (q .method) (enabledIn b book q)) least-passes);
-          granted = λ k. subst (λ (v : Reply). v .number ≢ noSet → (v .number ≡ 0) × Will b book q (v .set) × ((c : ℕ) → Will b book q c → Before (v .set) c)) (sym (is-verdict k)) (verdict-granted (least b (q .method) (enabledIn b book q)) least-passes);
+          denied = λ k. subst (λ (v : BookAnswer). (v .number ≡ noSet) ↔ ((c : ℕ) → Satisfies b book q c → ⊥)) (sym (is-verdict k)) (verdict-denied (least b (q .method) (enabledIn b book q)) least-passes);
+          empty = λ k. subst (λ (v : BookAnswer). v .number ≡ noSet → v .set ≡ 0) (sym (is-verdict k)) (verdict-empty (least b (q .method) (enabledIn b book q)) least-passes);
+          granted = λ k. subst (λ (v : BookAnswer). v .number ≢ noSet → (v .number ≡ 0) × Satisfies b book q (v .set) × ((c : ℕ) → Satisfies b book q c → Before (v .set) c)) (sym (is-verdict k)) (verdict-granted (least b (q .method) (enabledIn b book q)) least-passes);
           refused = λ n. (ap (λ (x : Answer). x .rules) (turned n), ap (λ (x : Answer). x .set) (turned n), λ z. n (asked-known (sym (ap (λ (x : Answer). x .number) (turned n)) ∙ z)));
         }
       where
-        is-verdict : Known b q → ofAnswer a ≡ verdict (least b (q .method) (enabledIn b book q))
+        is-verdict : Known b q → numberAndSet a ≡ verdict (least b (q .method) (enabledIn b book q))
         is-verdict k = e ∙ rw (eq-eqb (askRefusal b q) 0 (known-asked k)) refl
 
         turned : (Known b q → ⊥) → a ≡ refused (askRefusal b q) r
         turned n = other (λ z. n (asked-known z))
 
     eager-holds : QuestionHolds b book q r (eager r q)
-    eager-holds = question-holds (eager r q) (eager-reply b book r h q) (λ z. eager-refused b book r h q (askRefusal b q) (sym (refusal-is b book r h q)) z)
+    eager-holds = question-holds (eager r q) (eager-answer b book r h q) (λ z. eager-refused b book r h q (askRefusal b q) (sym (refusal-is b book r h q)) z)
 
     lazy-holds : QuestionHolds b book q r (lazy r q)
-    lazy-holds = question-holds (lazy r q) (lazy-reply b book r h q) (λ z. lazy-refused b book r h q (askRefusal b q) (sym (refusal-is b book r h q)) z)
+    lazy-holds = question-holds (lazy r q) (lazy-answer b book r h q) (λ z. lazy-refused b book r h q (askRefusal b q) (sym (refusal-is b book r h q)) z)
 
     same-set : SameSet r q
     same-set =
-        let e : ofAnswer (eager r q) ≡ ofAnswer (lazy r q) = eager-reply b book r h q ∙ sym (lazy-reply b book r h q) in
-        record { number = ap (λ (v : Reply). v .number) e; set = ap (λ (v : Reply). v .set) e }
+        let e : numberAndSet (eager r q) ≡ numberAndSet (lazy r q) = eager-answer b book r h q ∙ sym (lazy-answer b book r h q) in
+        record { number = ap (λ (v : BookAnswer). v .number) e; set = ap (λ (v : BookAnswer). v .set) e }
 
   pub call-holds : (c : Call) → CallHolds b book r c
   call-holds (add l x y) = add-holds l x y
@@ -205,21 +205,21 @@ module _ (b : Record) (book : Book) (r : Record) (h : Follows b book r) where
   call-holds (askEagerly q) = (eager-holds q, same-set q)
   call-holds (askLazily q) = (lazy-holds q, same-set q)
 
-  pub call-follows : (c : Call) → Follows b (booked b book c) (engineLeaves r c)
-  unfolding booked engineLeaves
-  call-follows (add l x y) = add-follows b book r h l x y
-  call-follows (remove l x y) = remove-follows b book r h l x y
-  call-follows (askEagerly q) = eager-follows b book r h q
-  call-follows (askLazily q) = lazy-follows b book r h q
+  pub call-agrees : (c : Call) → Agrees b (bookAfterCall b book c) (engineLeaves r c)
+  unfolding bookAfterCall engineLeaves
+  call-agrees (add l x y) = add-agrees b book r h l x y
+  call-agrees (remove l x y) = remove-agrees b book r h l x y
+  call-agrees (askEagerly q) = eager-agrees b book r h q
+  call-agrees (askLazily q) = lazy-agrees b book r h q
 
 -- ---- whole lists
 
-pub list-holds : (b : Record) (cs : List Call) (book : Book) (r : Record) → Follows b book r → ListHolds b book r cs
+pub list-holds : (b : Record) (cs : List Call) (book : Book) (r : Record) → Agrees b book r → ListHolds b book r cs
 list-holds b [] book r h = tt
-list-holds b (c ∷ cs) book r h = (call-holds b book r h c, list-holds b cs (booked b book c) (engineLeaves r c) (call-follows b book r h c))
+list-holds b (c ∷ cs) book r h = (call-holds b book r h c, list-holds b cs (bookAfterCall b book c) (engineLeaves r c) (call-agrees b book r h c))
 
--- a record just loaded follows the book of its own edges
-pub start : (text : List ℕ) → load text .number ≡ 0 → Follows (load text .rules) (rows edge (load text .rules)) (load text .rules)
+-- a record just loaded agrees the book of its own edges
+pub start : (text : List ℕ) → load text .number ≡ 0 → Agrees (load text .rules) (rows edge (load text .rules)) (load text .rules)
 start text e =
     let g = load-good text e in
     let r = load text .rules in
@@ -230,8 +230,8 @@ start text e =
       once = distinct-rows r (g .loads);
       rest = refl;
       sized = g .sized;
-      roomy = subst Roomy (sym (g .memo)) emptied-roomy;
-      truthful = subst (Truthful r) (sym (g .memo)) (emptied-truthful r);
+      lengths = subst MemoLengths (sym (g .memo)) emptied-lengths;
+      correct = subst (CorrectMemo r) (sym (g .memo)) (emptied-correct r);
     }
 
 pub demand-3 : Demand3

@@ -6,7 +6,7 @@ ghost use Prim.Native.Nat.{_+_, _/_, _≤_, min};
 ghost use lib.ListN.{length, take, drop};
 ghost use Rattle.octets.specs.Number.{inOctets};
 ghost use Rattle.policy.specs.Loadable as validity;
-ghost use Rattle.history.specs.Replay.{requestOf, questionOf, ofEdit, ofVerdict, answerTo, answeredCount, bufferAfter};
+ghost use Rattle.history.specs.Replay.{listedCallOf, questionOf, editAnswer, verdictAnswer, answerTo, answeredCount, bufferAfter};
 use access::Answer;
 use justification::Question;
 use justification::Verdict;
@@ -14,8 +14,8 @@ use policy::Edited;
 use policy::Record;
 
 // An edit's answer: no set, no evaluation.
-fn of_edit(edited: Edited) -> Answer
-    ensures { λ r. ⌜ r ≡ ofEdit edited ⌝ }
+fn edit_answer(edited: Edited) -> Answer
+    ensures { λ r. ⌜ r ≡ editAnswer edited ⌝ }
 {
     let rules = edited.rules;
     Answer {
@@ -27,8 +27,8 @@ fn of_edit(edited: Edited) -> Answer
 }
 
 // A predicate's answer: 1 for yes; the record stays.
-fn of_verdict(rules: Record, verdict: Verdict) -> Answer
-    ensures { λ r. ⌜ r ≡ ofVerdict rules verdict ⌝ }
+fn verdict_answer(rules: Record, verdict: Verdict) -> Answer
+    ensures { λ r. ⌜ r ≡ verdictAnswer rules verdict ⌝ }
 {
     if verdict.yes {
         return Answer {
@@ -59,29 +59,29 @@ fn question_of(a: u8, b: u8, c: u8) -> Question
 
 // Answers one request: 0 add, 1 remove, 2 eager, 3 lazy, 4 liberal, 5 strict; a kind above 5 is answered with 4.
 pub fn answer(rules: Record, kind: u8, a: u8, b: u8, c: u8) -> Answer
-    ensures { λ r. ⌜ r ≡ answerTo rules (requestOf kind a b c) ⌝ }
+    ensures { λ r. ⌜ r ≡ answerTo rules (listedCallOf kind a b c) ⌝ }
 {
     let loads = policy::loadable::loadable(rules);
-    answer_if(rules, loads, kind, a, b, c)
+    answer_given(rules, loads, kind, a, b, c)
 }
 
 // The same, where it is known whether some bundle loads to the record.
-fn answer_if(rules: Record, loads: bool, kind: u8, a: u8, b: u8, c: u8) -> Answer
+fn answer_given(rules: Record, loads: bool, kind: u8, a: u8, b: u8, c: u8) -> Answer
     requires { ⌜ loads ≡ validity.loadable rules ⌝ }
-    ensures { λ r. ⌜ r ≡ answerTo rules (requestOf kind a b c) ⌝ }
+    ensures { λ r. ⌜ r ≡ answerTo rules (listedCallOf kind a b c) ⌝ }
 {
     match kind {
-        0 => of_edit(rules.add_edge_if(loads, a, b, c)),
-        1 => of_edit(rules.remove_edge_if(loads, a, b, c)),
-        2 => access::ask_eager_if(rules, loads, question_of(a, b, c)),
-        3 => access::ask_lazy_if(rules, loads, question_of(a, b, c)),
-        4 => of_verdict(
+        0 => edit_answer(rules.add_edge_given(loads, a, b, c)),
+        1 => edit_answer(rules.remove_edge_given(loads, a, b, c)),
+        2 => access::ask_eager_given(rules, loads, question_of(a, b, c)),
+        3 => access::ask_lazy_given(rules, loads, question_of(a, b, c)),
+        4 => verdict_answer(
             rules,
-            justification::liberal_if(rules, loads, question_of(a, b, c)),
+            justification::liberal_given(rules, loads, question_of(a, b, c)),
         ),
-        5 => of_verdict(
+        5 => verdict_answer(
             rules,
-            justification::strict_if(rules, loads, question_of(a, b, c)),
+            justification::strict_given(rules, loads, question_of(a, b, c)),
         ),
         6..=255 => Answer {
             number: common::WRONG_KIND,
@@ -126,7 +126,7 @@ pub fn replay(rules: Record, calls: &[u8], answers: &mut [u8]) -> usize
     let mut i: usize = 0;
     while i < n {
         let at = 4 * i;
-        let got = answer_if(
+        let got = answer_given(
             r,
             loads,
             calls[at],

@@ -1,9 +1,9 @@
 -- Who may put a question: each way out of `question_refusal`, and what it says where the question may be put.
-use Prim.Native.Nat.{ℕ, _≤_, _<_}
-use mathlib.Core.Path.{_≡_, refl, sym, _∙_}
+use Prim.Native.Nat.{ℕ, zero, suc, _≤_, _<_}
+use mathlib.Core.Path.{_≡_, refl, sym, _∙_, ap}
 use mathlib.Core.Logic.{_≢_}
-use mathlib.Core.Bool.{Bool, true, false, _&&_}
-use mathlib.Core.List.{[], _∷_}
+use mathlib.Core.Bool.{Bool, true, false, _&&_, _||_}
+use mathlib.Core.List.{List, [], _∷_}
 use lib.Dec.{leb, eqb}
 use borrow.Author.Tests.{le-leb, lt-leb, leb-false, ne-eqb}
 use native.Mathlib.Omega.{arith}
@@ -12,9 +12,22 @@ use Rattle.policy.specs.declared.Record.{Record}
 use Rattle.policy.specs.Loadable.{loadable}
 use Rattle.formula.specs.Formula.{isUser}
 use Rattle.justification.specs.declared.Question.{Question}
-use Rattle.justification.specs.Predicates.{questionRefusal, enabled, liberal, strict}
+use Rattle.justification.specs.Predicates.{isUserIn, questionRefusal, enabled, liberal, strict}
 use Rattle.justification.specs.Justification.{meets}
-use Rattle.common.specs.Lists.{any}
+use Rattle.common.specs.Lists.{at, any, table}
+use Rattle.common.specs.ListLaws.{any-more}
+
+-- a user by the column of objects is a user of the record
+users-in : (objects roles : List ℕ) (s n : ℕ)
+    → isUserIn n objects s ≡ any (λ u. eqb (at u 0) s) (table n (λ i. at objects i ∷ at roles i ∷ []))
+users-in objects roles s zero = refl
+users-in objects roles s (suc n) =
+    any-more (λ i. eqb (at objects i) s) n (λ i. i)
+    ∙ ap (λ (b : Bool). b || eqb (at objects n) s) (users-in objects roles s n)
+    ∙ sym (any-more (λ u. eqb (at u 0) s) n (λ i. at objects i ∷ at roles i ∷ []))
+
+pub user-in : (r : Record) (s : ℕ) → isUserIn (r .«user_count») (r .«user_objects») s ≡ isUser r s
+user-in r s = users-in (r .«user_objects») (r .«user_roles») s (r .«user_count»)
 
 module _ (r : Record) (q : Question) where
   pub not-loadable : loadable r ≡ false → notLoadable ≡ questionRefusal r q

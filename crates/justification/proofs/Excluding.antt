@@ -12,15 +12,15 @@ use lib.Dec.{eqb}
 use lib.ListN.{length, set, replicate, length-set}
 use lib.Seq.{getD-set-same, getD-set-other}
 use borrow.Author.Tests.{eqb-true, eq-eqb}
-use Rattle.common.specs.Lists.{at, any, same, table}
+use Rattle.common.specs.Lists.{at, any, same}
 use Rattle.common.specs.ListLaws.{any-more}
 use Rattle.common.specs.Sets.{In}
 use Rattle.common.specs.SetLaws.{none-in-zero, in-or-l, in-or-r, or-in, in-pow, pow-in}
 use Rattle.common.specs.BoolLaws.{and-cases, and-both, or-cases, or-left, or-right}
-use Rattle.policy.specs.declared.Record.{Record}
-use Rattle.policy.specs.Table.{exclusion, row}
+use Rattle.closure.specs.Closure.{pairsOf}
+use Rattle.justification.specs.Masked.{AmongPairs}
 
--- ---- one member more at a place
+-- ---- one member more at a index
 
 pub set-in : (l : List ℕ) (i v x y : ℕ) → i < length l → {w : ℕ} → w ≡ bitOr (at l i) (2 ^ v) → (In y (at (set l i w) x) ↔ (In y (at l x) ⊎ ((i ≡ x) × (v ≡ y))))
 set-in l i v x y h {w} e = go (ℕ-discrete x i)
@@ -37,7 +37,7 @@ set-in l i v x y h {w} e = go (ℕ-discrete x i)
           λ m. subst (In y) (sym here) (⊎-elim (λ z. z) (λ z. absurd (f (sym (z .0)))) m),
         )
 
--- both members of a pair, each at the other's place
+-- both members of a pair, each at the other's index
 pub pair-in : (m : List ℕ) (a b : ℕ) → length m ≡ 20 → a < 20 → b < 20 → {v w : ℕ} → v ≡ bitOr (at m a) (2 ^ b) → w ≡ bitOr (at (set m a v) b) (2 ^ a)
     → (x y : ℕ) → (In y (at (set (set m a v) b w) x) ↔ (In y (at m x) ⊎ (((a ≡ x) × (b ≡ y)) ⊎ ((b ≡ x) × (a ≡ y)))))
 pair-in m a b long la lb {v} ev ew x y =
@@ -55,13 +55,9 @@ same-pair x y a b = (
   λ (p, q). and-both (eqb x a) _ (eq-eqb x a (sym p)) (and-both (eqb y b) true (eq-eqb y b (sym q)) refl),
 )
 
-module _ (r : Record) where
-  -- p and q are one of the first i pairs, one way or the other
-  abbrev pub Among : ℕ → ℕ → ℕ → Type 0
-  Among i p q = (any (same (p ∷ q ∷ [])) (table i (λ k. row exclusion k r)) || any (same (q ∷ p ∷ [])) (table i (λ k. row exclusion k r))) ≡ true
-
+module _ (lows highs : List ℕ) where
   pub record Excludes (i : ℕ) (sets : List ℕ) : Type 0 where
-    pub each : (p q : ℕ) → p < 20 → (In q (at sets p) ↔ Among i p q)
+    pub each : (p q : ℕ) → p < 20 → (In q (at sets p) ↔ AmongPairs i lows highs p q)
 
   zero-at : (n g : ℕ) → at (replicate n 0) g ≡ 0
   zero-at zero g = refl
@@ -71,36 +67,36 @@ module _ (r : Record) where
   pub excludes-none : Excludes 0 (replicate 20 0)
   excludes-none = record { each = λ p q l. (λ m. absurd (none-in-zero q (subst (In q) (zero-at 20 p) m)), λ e. absurd (false≢true e)) }
 
-  one-more : (i p q : ℕ) → any (same (p ∷ q ∷ [])) (table (suc i) (λ k. row exclusion k r)) ≡ true
-      ↔ ((any (same (p ∷ q ∷ [])) (table i (λ k. row exclusion k r)) ≡ true) ⊎ ((at (r .«exclusion_lows») i ≡ p) × (at (r .«exclusion_highs») i ≡ q)))
+  one-more : (i p q : ℕ) → any (same (p ∷ q ∷ [])) (pairsOf (suc i) lows highs) ≡ true
+      ↔ ((any (same (p ∷ q ∷ [])) (pairsOf i lows highs) ≡ true) ⊎ ((at lows i ≡ p) × (at highs i ≡ q)))
   one-more i p q =
-      let e = any-more (same (p ∷ q ∷ [])) i (λ k. row exclusion k r) in
-      let s = same-pair p q (at (r .«exclusion_lows») i) (at (r .«exclusion_highs») i) in (
+      let e = any-more (same (p ∷ q ∷ [])) i (λ k. at lows k ∷ at highs k ∷ []) in
+      let s = same-pair p q (at lows i) (at highs i) in (
         λ t. ⊎-elim (λ x. inl x) (λ x. inr (s .0 x)) (or-cases _ _ (sym e ∙ t)),
-        λ t. e ∙ ⊎-elim (λ x. or-left _ _ x) (λ x. or-right (any (same (p ∷ q ∷ [])) (table i (λ k. row exclusion k r))) _ (s .1 x)) t,
+        λ t. e ∙ ⊎-elim (λ x. or-left _ _ x) (λ x. or-right (any (same (p ∷ q ∷ [])) (pairsOf i lows highs)) _ (s .1 x)) t,
       )
 
-  pub excludes-more : {i a b : ℕ} {sets after : List ℕ} → Excludes i sets → a ≡ at (r .«exclusion_lows») i → b ≡ at (r .«exclusion_highs») i
+  pub excludes-more : {i a b : ℕ} {sets after : List ℕ} → Excludes i sets → a ≡ at lows i → b ≡ at highs i
       → ((x y : ℕ) → x < 20 → (In y (at after x) ↔ (In y (at sets x) ⊎ (((a ≡ x) × (b ≡ y)) ⊎ ((b ≡ x) × (a ≡ y))))))
       → Excludes (i + 1) after
   excludes-more {i} {a} {b} {sets} {after} h ea eb w =
       subst (λ (n : ℕ). Excludes n after) (sym (add-one i)) (record { each = λ p q l. (there p q l, back p q l) })
     where
-      there : (p q : ℕ) → p < 20 → In q (at after p) → Among (suc i) p q
+      there : (p q : ℕ) → p < 20 → In q (at after p) → AmongPairs (suc i) lows highs p q
       there p q l m =
           ⊎-elim
-          (λ x. ⊎-elim (λ y. or-left _ _ (one-more i p q .1 (inl y))) (λ y. or-right (any (same (p ∷ q ∷ [])) (table (suc i) (λ k. row exclusion k r))) _ (one-more i q p .1 (inl y)))
+          (λ x. ⊎-elim (λ y. or-left _ _ (one-more i p q .1 (inl y))) (λ y. or-right (any (same (p ∷ q ∷ [])) (pairsOf (suc i) lows highs)) _ (one-more i q p .1 (inl y)))
           (or-cases _ _ (h .each p q l .0 x)))
           (λ x. ⊎-elim
           (λ (y, z). or-left _ _ (one-more i p q .1 (inr (sym ea ∙ y, sym eb ∙ z))))
-          (λ (y, z). or-right (any (same (p ∷ q ∷ [])) (table (suc i) (λ k. row exclusion k r))) _ (one-more i q p .1 (inr (sym ea ∙ z, sym eb ∙ y))))
+          (λ (y, z). or-right (any (same (p ∷ q ∷ [])) (pairsOf (suc i) lows highs)) _ (one-more i q p .1 (inr (sym ea ∙ z, sym eb ∙ y))))
           x)
           (w p q l .0 m)
 
-      back : (p q : ℕ) → p < 20 → Among (suc i) p q → In q (at after p)
+      back : (p q : ℕ) → p < 20 → AmongPairs (suc i) lows highs p q → In q (at after p)
       back p q l m =
           w p q l .1
           (⊎-elim
           (λ x. ⊎-elim (λ y. inl (h .each p q l .1 (or-left _ _ y))) (λ (y, z). inr (inl (ea ∙ y, eb ∙ z))) (one-more i p q .0 x))
-          (λ x. ⊎-elim (λ y. inl (h .each p q l .1 (or-right (any (same (p ∷ q ∷ [])) (table i (λ k. row exclusion k r))) _ y))) (λ (y, z). inr (inr (eb ∙ z, ea ∙ y))) (one-more i q p .0 x))
+          (λ x. ⊎-elim (λ y. inl (h .each p q l .1 (or-right (any (same (p ∷ q ∷ [])) (pairsOf i lows highs)) _ y))) (λ (y, z). inr (inr (eb ∙ z, ea ∙ y))) (one-more i q p .0 x))
           (or-cases _ _ m))

@@ -1,4 +1,4 @@
--- Sets and privileges gathered place by place, as the loops go.
+-- Sets and privileges gathered index by index, as the loops go.
 use Prim.Native.Nat.{ℕ, _+_, _^_, _<_}
 use mathlib.Core.Path.{_≡_, refl, sym, _∙_, subst}
 use mathlib.Core.Logic.{_⊎_, ⊎-elim}
@@ -59,7 +59,7 @@ marks-more {i} {s} {s′} {t} h b e d =
 pub marks-end : {i n s : ℕ} {t : ℕ → Bool} → i ≡ n → Marks i t s → Marks n t s
 marks-end {s = s} {t = t} e h = subst (λ (n : ℕ). Marks n t s) e h
 
--- ---- a table filled place by place: what holds of each place below j
+-- ---- a table filled index by index: what holds of each index below j
 
 pub stored : (P : ℕ → ℕ → Type 0) (l : List ℕ) (j v : ℕ) → j < length l → ((k : ℕ) → k < j → P k (at l k)) → P j v → (k : ℕ) → k < j + 1 → P k (at (set l j v) k)
 stored P l j v h f x k b =

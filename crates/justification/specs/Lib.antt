@@ -2,10 +2,8 @@ pub mod Justification
 pub mod Order
 pub mod Masked
 pub mod Predicates
-pub mod Walk
 pub mod Parts
 pub mod OrderFact
 pub mod MaskLaws
-pub mod WalkLaws
 pub mod GuardLaws
 pub mod NamedLaws

@@ -13,6 +13,10 @@ use Rattle.justification.specs.declared.Question.{Question}
 use Rattle.justification.specs.declared.Verdict.{Verdict}
 use Rattle.justification.specs.Justification.{meets}
 
+-- one of the first n user lines, by the column of their objects, is that of s
+abbrev pub isUserIn : ℕ → List ℕ → ℕ → Bool
+isUserIn n objects s = any (λ i. eqb (at objects i) s) (below n)
+
 -- 19; 14 no such method; 15 no such object; 16 the requestor isn't a user
 unfoldable pub questionRefusal : Record → Question → ℕ
 questionRefusal r q =
@@ -31,13 +35,13 @@ abbrev pub enabled : Record → Question → List ℕ
 enabled r q = those (isEnabled r q) (below (r .«principal_count»))
 
 -- for a refusal, no
-abbrev pub judged : ℕ → Bool → Verdict
-judged n b = record { number = n; yes = eqb n 0 && b }
+abbrev pub verdictOf : ℕ → Bool → Verdict
+verdictOf n b = record { number = n; yes = eqb n 0 && b }
 
 -- all enabled principals together meet the guard
 unfoldable pub liberal : Record → Question → Verdict
-liberal r q = judged (questionRefusal r q) (meets r (q .method) (enabled r q))
+liberal r q = verdictOf (questionRefusal r q) (meets r (q .method) (enabled r q))
 
 -- one enabled principal alone meets the guard
 unfoldable pub strict : Record → Question → Verdict
-strict r q = judged (questionRefusal r q) (any (λ p. meets r (q .method) (p ∷ [])) (enabled r q))
+strict r q = verdictOf (questionRefusal r q) (any (λ p. meets r (q .method) (p ∷ [])) (enabled r q))

@@ -7,6 +7,7 @@ ghost use mathlib.Core.List.{[]};
 ghost use Prim.Native.Nat.{ℕ, _^_, _≤_, _<_};
 ghost use lib.Bits.{bitOr};
 ghost use lib.ListN.{getD};
+ghost use Rattle.common.specs.Limits.{mostUsers, mostPrincipals, mostExclusions, privileges};
 ghost use Rattle.common.specs.Lists.{at};
 ghost use Rattle.common.specs.Sets.{member, In};
 ghost use Rattle.closure.specs.Closure.{pairsOf, reaches};
@@ -14,15 +15,16 @@ ghost use Rattle.search.specs.Steps.{MetBy};
 ghost use Rattle.policy.specs.Table.{Kind};
 ghost use Rattle.policy.specs.Loadable.{tableLoads, pairsLoad};
 ghost use Rattle.policy.specs.Loadable as validity;
-ghost use Rattle.formula.specs.Formula.{isUser};
-ghost use Rattle.formula.specs.Evaluation.{trueIn};
-ghost use Rattle.justification.specs.Justification.{demarcationHas, needs};
+ghost use Rattle.justification.specs.Justification.{demarcationHas};
 ghost use Rattle.justification.specs.Justification as justification;
-ghost use Rattle.justification.specs.Masked.{excluded, Masked, found};
-ghost use Rattle.justification.specs.Predicates.{questionRefusal, isEnabled};
+ghost use Rattle.justification.specs.Masked.{AmongPairs, Masked, found};
+ghost use Rattle.justification.specs.Predicates.{isUserIn, questionRefusal, isEnabled};
 ghost use Rattle.justification.specs.Predicates as predicates;
 ghost use Rattle.justification.specs.Parts.{Marks, Those};
-use formula::Setting;
+use common::MOST_EXCLUSIONS;
+use common::MOST_PAIRS;
+use common::MOST_PRINCIPALS;
+use common::MOST_USERS;
 use policy::Record;
 use search::Found;
 use search::Masks;
@@ -42,8 +44,8 @@ pub struct Verdict {
 
 // ---- sets
 
-// A thing's number as a place of a table.
-fn place(x: u8) -> usize
+// A thing's number as an index of a table.
+fn index(x: u8) -> usize
     ensures { λ r. ⌜ r ≡ x ⌝ }
 {
     x as usize
@@ -51,14 +53,14 @@ fn place(x: u8) -> usize
 
 // The privileges that a method lists: 64 at most.
 fn listed(privileges: u64) -> u64
-    ensures { λ r. ⌜ (r ≡ privileges) × (r < 2 ^ 64) ⌝ }
+    ensures { λ r. ⌜ (r ≡ privileges) × (r < 2 ^ privileges) ⌝ }
 {
     privileges
 }
 
 // The set s, with p added where p passes.
 pub fn marked(s: u32, p: usize, passes: bool) -> u32
-    requires { ⌜ p < 20 ⌝ }
+    requires { ⌜ p < mostPrincipals ⌝ }
     ensures { λ r. ⌜ r ≡ cond passes (bitOr s (2 ^ p)) s ⌝ }
 {
     if passes {
@@ -70,8 +72,8 @@ pub fn marked(s: u32, p: usize, passes: bool) -> u32
 // ---- hierarchy and prerequisites, closed
 
 // The things below n that the relation c leads from to j.
-fn column_set(c: [[bool; 20]; 20], n: usize, j: usize) -> u32
-    requires { ⌜ (n ≤ 20) × (j < 20) ⌝ }
+fn column_set(c: [[bool; MOST_PRINCIPALS]; MOST_PRINCIPALS], n: usize, j: usize) -> u32
+    requires { ⌜ (n ≤ mostPrincipals) × (j < mostPrincipals) ⌝ }
     ensures { λ r. ⌜ Marks n (λ i. getD (getD c i []) j false) r ⌝ }
 {
     let mut s: u32 = 0;
@@ -85,11 +87,11 @@ fn column_set(c: [[bool; 20]; 20], n: usize, j: usize) -> u32
 }
 
 // The same for each j below n.
-fn column_sets(c: [[bool; 20]; 20], n: usize) -> [u32; 20]
-    requires { ⌜ n ≤ 20 ⌝ }
+fn column_sets(c: [[bool; MOST_PRINCIPALS]; MOST_PRINCIPALS], n: usize) -> [u32; MOST_PRINCIPALS]
+    requires { ⌜ n ≤ mostPrincipals ⌝ }
     ensures { λ r. ⌜ ((j : ℕ) → j < n → Marks n (λ i. getD (getD c i []) j false) (at r j)) ⌝ }
 {
-    let mut sets = [0u32; 20];
+    let mut sets = [0u32; MOST_PRINCIPALS];
     let mut j: usize = 0;
     while j < n {
         let s = column_set(c, n, j);
@@ -100,8 +102,8 @@ fn column_sets(c: [[bool; 20]; 20], n: usize) -> [u32; 20]
 }
 
 // For each of so many things those that come to it by steps along the pairs, none or more.
-fn leading_to(things: usize, count: usize, firsts: [u8; 380], seconds: [u8; 380]) -> [u32; 20]
-    requires { ⌜ (pairsLoad things count firsts seconds ≡ true) × (things ≤ 20) ⌝ }
+fn leading_to(things: usize, count: usize, firsts: [u8; MOST_PAIRS], seconds: [u8; MOST_PAIRS]) -> [u32; MOST_PRINCIPALS]
+    requires { ⌜ (pairsLoad things count firsts seconds ≡ true) × (things ≤ mostPrincipals) ⌝ }
     ensures { λ r. ⌜ ((j : ℕ) → j < things → Marks things (λ i. reaches (pairsOf count firsts seconds) i j) (at r j)) ⌝ }
 {
     let relation = closure::related(firsts, seconds, count);
@@ -109,25 +111,11 @@ fn leading_to(things: usize, count: usize, firsts: [u8; 380], seconds: [u8; 380]
     column_sets(closed, things)
 }
 
-// What each principal needs.
-fn needs_of(rules: Record) -> [u32; 20]
-    requires { ⌜ ((j : Kind) → tableLoads rules j ≡ true) ⌝ }
-    ensures { λ r. ⌜ ((q : ℕ) → q < rules .«principal_count» → Marks (rules .«principal_count») (λ p. needs rules q p) (at r q)) ⌝ }
-{
-    let needed = rules.prerequisites;
-    let needing = rules.dependents;
-    leading_to(
-        rules.principal_count,
-        rules.prerequisite_count,
-        needed,
-        needing,
-    )
-}
-
 // The privileges of each principal: those that its demarcation lists, or one below it.
-fn grants_of(rules: Record) -> [u64; 20]
+fn grants_of(rules: Record) -> [u64; MOST_PRINCIPALS]
     requires { ⌜ ((j : Kind) → tableLoads rules j ≡ true) ⌝ }
-    ensures { λ r. ⌜ ((p k : ℕ) → p < rules .«principal_count» → (In k (at r p) ↔ (demarcationHas rules (at (rules .«principal_demarcations») p) k ≡ true))) ⌝ }
+    ensures { λ r. ⌜ ((p k : ℕ) → p < rules .«principal_count»
+        → (In k (at r p) ↔ (demarcationHas rules (at (rules .«principal_demarcations») p) k ≡ true))) ⌝ }
 {
     let demarcations = rules.demarcation_count;
     let inferiors = rules.inferiors;
@@ -135,10 +123,10 @@ fn grants_of(rules: Record) -> [u64; 20]
     let below = leading_to(demarcations, rules.hierarchy_count, inferiors, superiors);
     let lists = rules.demarcation_privileges;
     let n = rules.principal_count;
-    let mut grants = [0u64; 20];
+    let mut grants = [0u64; MOST_PRINCIPALS];
     let mut p: usize = 0;
     while p < n {
-        let d = place(rules.principal_demarcations[p]);
+        let d = index(rules.principal_demarcations[p]);
         let g = search::gathered(demarcations, below[d], lists);
         grants[p] = g;
         p += 1;
@@ -149,9 +137,10 @@ fn grants_of(rules: Record) -> [u64; 20]
 // ---- exclusions
 
 // The exclusions m, with the pair of a and b, each for the other.
-fn with_exclusion(m: [u32; 20], a: usize, b: usize) -> [u32; 20]
-    requires { ⌜ (a < 20) × (b < 20) ⌝ }
-    ensures { λ r. ⌜ ((x y : ℕ) → x < 20 → (In y (at r x) ↔ (In y (at m x) ⊎ (((a ≡ x) × (b ≡ y)) ⊎ ((b ≡ x) × (a ≡ y)))))) ⌝ }
+fn with_exclusion(m: [u32; MOST_PRINCIPALS], a: usize, b: usize) -> [u32; MOST_PRINCIPALS]
+    requires { ⌜ (a < mostPrincipals) × (b < mostPrincipals) ⌝ }
+    ensures { λ r. ⌜ ((x y : ℕ) → x < mostPrincipals
+        → (In y (at r x) ↔ (In y (at m x) ⊎ (((a ≡ x) × (b ≡ y)) ⊎ ((b ≡ x) × (a ≡ y)))))) ⌝ }
 {
     let mut sets = m;
     let first = search::add(sets[a], b);
@@ -161,18 +150,20 @@ fn with_exclusion(m: [u32; 20], a: usize, b: usize) -> [u32; 20]
     sets
 }
 
-// What each principal excludes.
-fn excludes_of(rules: Record) -> [u32; 20]
-    requires { ⌜ ((j : Kind) → tableLoads rules j ≡ true) ⌝ }
-    ensures { λ r. ⌜ ((p q : ℕ) → p < rules .«principal_count» → (In q (at r p) ↔ excluded rules p q)) ⌝ }
+// What each principal excludes, by so many pairs whose columns are lent.
+fn excludes_of<'a>(
+    count: usize,
+    lows: &'a [u8; MOST_EXCLUSIONS],
+    highs: &'a [u8; MOST_EXCLUSIONS],
+) -> [u32; MOST_PRINCIPALS]
+    requires { ⌜ (count ≤ mostExclusions)
+        × ((i : ℕ) → i < count → (at (now lows) i < mostPrincipals) × (at (now highs) i < mostPrincipals)) ⌝ }
+    ensures { λ r. ⌜ ((p q : ℕ) → p < mostPrincipals → (In q (at r p) ↔ AmongPairs count (now (lows .entry)) (now (highs .entry)) p q)) ⌝ }
 {
-    let n = rules.exclusion_count;
-    let mut sets = [0u32; 20];
+    let mut sets = [0u32; MOST_PRINCIPALS];
     let mut i: usize = 0;
-    while i < n {
-        let low = place(rules.exclusion_lows[i]);
-        let high = place(rules.exclusion_highs[i]);
-        let more = with_exclusion(sets, low, high);
+    while i < count {
+        let more = with_exclusion(sets, index(lows[i]), index(highs[i]));
         sets = more;
         i += 1;
     }
@@ -186,12 +177,19 @@ pub fn masks_of(rules: Record, method: usize, allowed: u32) -> Masks
     requires { ⌜ ((j : Kind) → tableLoads rules j ≡ true) × (method < rules .«method_count») ⌝ }
     ensures { λ r. ⌜ Masked rules method allowed r ⌝ }
 {
-    let excludes = excludes_of(rules);
-    let needs = needs_of(rules);
+    let principals = rules.principal_count;
+    let excludes = excludes_of(
+        rules.exclusion_count,
+        &rules.exclusion_lows,
+        &rules.exclusion_highs,
+    );
+    let needed = rules.prerequisites;
+    let needing = rules.dependents;
+    let needs = leading_to(principals, rules.prerequisite_count, needed, needing);
     let grants = grants_of(rules);
     let wanted = listed(rules.method_privileges[method]);
     Masks {
-        count: rules.principal_count,
+        count: principals,
         allowed: allowed,
         excludes: excludes,
         needs: needs,
@@ -212,16 +210,15 @@ pub fn least(rules: Record, method: usize, allowed: u32) -> Found
 
 // ---- questions
 
-// Whether there is a user line for s.
-fn is_user(rules: Record, s: u8) -> bool
-    requires { ⌜ rules .«user_count» ≤ 255 ⌝ }
-    ensures { λ r. ⌜ r ≡ isUser rules s ⌝ }
+// Whether one of so many user lines, whose objects are lent, is that of s.
+fn is_user<'a>(count: usize, objects: &'a [u8; MOST_USERS], s: u8) -> bool
+    requires { ⌜ count ≤ mostUsers ⌝ }
+    ensures { λ r. ⌜ r ≡ isUserIn count (now (objects .entry)) s ⌝ }
 {
-    let n = rules.user_count;
     let mut found = false;
     let mut i: usize = 0;
-    while i < n {
-        found = found | (rules.user_objects[i] == s);
+    while i < count {
+        found = found | (objects[i] == s);
         i += 1;
     }
     found
@@ -241,15 +238,15 @@ pub fn question_refusal(rules: Record, loads: bool, question: Question) -> u8
     if rules.objects <= question.object {
         return common::NO_OBJECT;
     }
-    if !is_user(rules, question.requestor) {
+    if !is_user(rules.user_count, &rules.user_objects, question.requestor) {
         return common::NOT_USER;
     }
     common::ACCEPTED
 }
 
 // Those of the first n principals that meet a guard alone.
-fn meeting(n: usize, grants: [u64; 20], every: bool, wanted: u64) -> u32
-    requires { ⌜ n ≤ 20 ⌝ }
+fn meeting(n: usize, grants: [u64; MOST_PRINCIPALS], every: bool, wanted: u64) -> u32
+    requires { ⌜ n ≤ mostPrincipals ⌝ }
     ensures { λ r. ⌜ Those n (λ p. MetBy every wanted (at grants p)) r ⌝ }
 {
     let mut s: u32 = 0;
@@ -262,17 +259,39 @@ fn meeting(n: usize, grants: [u64; 20], every: bool, wanted: u64) -> u32
     s
 }
 
-// Of the first n principals those in `among` whose formula is true at the object; no other formula is evaluated.
-fn true_ones(q: Setting, n: usize, formulas: [u8; 20], among: u32) -> u32
-    requires { ⌜ (q .«edge_count» ≤ 512) × (n ≤ 20) ⌝ }
-    ensures { λ r. ⌜ Those n (λ p. (In p among) × (trueIn q 64 (at formulas p) (q .object) ≡ true)) r ⌝ }
+// The enabled principals of those in `among`; no other formula is evaluated.
+pub fn enabled_of(rules: Record, question: Question, among: u32) -> u32
+    requires { ⌜ ((j : Kind) → tableLoads rules j ≡ true) ⌝ }
+    ensures { λ r. ⌜ Those (rules .«principal_count») (λ p. (In p among) × (isEnabled rules question p ≡ true)) r ⌝ }
 {
+    let n = rules.principal_count;
+    let object = question.object;
+    let requestor = question.requestor;
+    let roles = formula::roles_of(
+        rules.user_count,
+        &rules.user_objects,
+        &rules.user_roles,
+        requestor,
+    );
     let mut s: u32 = 0;
     let mut p: usize = 0;
     while p < n {
         if search::has(among, p) {
-            let f = place(formulas[p]);
-            let more = marked(s, p, formula::true_at_object(q, f));
+            let f = index(rules.principal_formulas[p]);
+            let value = formula::true_at_object(
+                rules.edge_count,
+                &rules.edge_labels,
+                &rules.edge_sources,
+                &rules.edge_targets,
+                &rules.formula_ops,
+                &rules.formula_lefts,
+                &rules.formula_rights,
+                roles,
+                object,
+                requestor,
+                f,
+            );
+            let more = marked(s, p, value);
             s = more;
         }
         p += 1;
@@ -280,26 +299,16 @@ fn true_ones(q: Setting, n: usize, formulas: [u8; 20], among: u32) -> u32
     s
 }
 
-// The enabled principals of those in `among`.
-pub fn enabled_of(rules: Record, question: Question, among: u32) -> u32
-    requires { ⌜ ((j : Kind) → tableLoads rules j ≡ true) ⌝ }
-    ensures { λ r. ⌜ Those (rules .«principal_count») (λ p. (In p among) × (isEnabled rules question p ≡ true)) r ⌝ }
-{
-    let q = formula::setting_of(rules, question.object, question.requestor);
-    let formulas = rules.principal_formulas;
-    true_ones(q, rules.principal_count, formulas, among)
-}
-
 // Whether all enabled principals together meet the guard, without constraints.
 pub fn liberal(rules: Record, question: Question) -> Verdict
     ensures { λ r. ⌜ r ≡ predicates.liberal rules question ⌝ }
 {
     let loads = policy::loadable::loadable(rules);
-    liberal_if(rules, loads, question)
+    liberal_given(rules, loads, question)
 }
 
 // The same, where it is known whether some bundle loads to the record. Only the formulas of principals that give a wanted privilege are evaluated.
-pub fn liberal_if(rules: Record, loads: bool, question: Question) -> Verdict
+pub fn liberal_given(rules: Record, loads: bool, question: Question) -> Verdict
     requires { ⌜ loads ≡ validity.loadable rules ⌝ }
     ensures { λ r. ⌜ r ≡ predicates.liberal rules question ⌝ }
 {
@@ -310,7 +319,7 @@ pub fn liberal_if(rules: Record, loads: bool, question: Question) -> Verdict
             yes: false,
         };
     }
-    let m = place(question.method);
+    let m = index(question.method);
     let wanted = listed(rules.method_privileges[m]);
     let grants = grants_of(rules);
     let givers = meeting(rules.principal_count, grants, false, wanted);
@@ -328,11 +337,11 @@ pub fn strict(rules: Record, question: Question) -> Verdict
     ensures { λ r. ⌜ r ≡ predicates.strict rules question ⌝ }
 {
     let loads = policy::loadable::loadable(rules);
-    strict_if(rules, loads, question)
+    strict_given(rules, loads, question)
 }
 
 // The same, where it is known whether some bundle loads to the record. Only the formulas of principals that meet the guard are evaluated.
-pub fn strict_if(rules: Record, loads: bool, question: Question) -> Verdict
+pub fn strict_given(rules: Record, loads: bool, question: Question) -> Verdict
     requires { ⌜ loads ≡ validity.loadable rules ⌝ }
     ensures { λ r. ⌜ r ≡ predicates.strict rules question ⌝ }
 {
@@ -343,7 +352,7 @@ pub fn strict_if(rules: Record, loads: bool, question: Question) -> Verdict
             yes: false,
         };
     }
-    let m = place(question.method);
+    let m = index(question.method);
     let wanted = listed(rules.method_privileges[m]);
     let grants = grants_of(rules);
     let able = meeting(

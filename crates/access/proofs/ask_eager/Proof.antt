@@ -6,11 +6,11 @@ use Rattle.access.proofs.ask_eager.Tie as tie
 loadable-requires : tie.Need-loadable-requires
 loadable-requires c κs = search needs
 
-ask-eager-if-requires : tie.Need-ask-eager-if-requires
-ask-eager-if-requires c κs = c .loadable .ensures
+ask-eager-given-requires : tie.Need-ask-eager-given-requires
+ask-eager-given-requires c κs = c .loadable .ensures
 
 returns : tie.Need-returns
-returns c = c .ask-eager-if .ensures
+returns c = c .ask-eager-given .ensures
 
 pub ask-eager-spec : {M : Type 1} → statement M
-ask-eager-spec = tie.close (tie.spec loadable-requires ask-eager-if-requires returns)
+ask-eager-spec = tie.close (tie.spec loadable-requires ask-eager-given-requires returns)

@@ -6,11 +6,11 @@ use Rattle.access.proofs.ask_lazy.Tie as tie
 loadable-requires : tie.Need-loadable-requires
 loadable-requires c κs = search needs
 
-ask-lazy-if-requires : tie.Need-ask-lazy-if-requires
-ask-lazy-if-requires c κs = c .loadable .ensures
+ask-lazy-given-requires : tie.Need-ask-lazy-given-requires
+ask-lazy-given-requires c κs = c .loadable .ensures
 
 returns : tie.Need-returns
-returns c = c .ask-lazy-if .ensures
+returns c = c .ask-lazy-given .ensures
 
 pub ask-lazy-spec : {M : Type 1} → statement M
-ask-lazy-spec = tie.close (tie.spec loadable-requires ask-lazy-if-requires returns)
+ask-lazy-spec = tie.close (tie.spec loadable-requires ask-lazy-given-requires returns)

@@ -6,11 +6,11 @@ use Rattle.history.proofs.answer.Tie as tie
 loadable-requires : tie.Need-loadable-requires
 loadable-requires c κs = search needs
 
-answer-if-requires : tie.Need-answer-if-requires
-answer-if-requires c κs = c .loadable .ensures
+answer-given-requires : tie.Need-answer-given-requires
+answer-given-requires c κs = c .loadable .ensures
 
 returns : tie.Need-returns
-returns c = c .answer-if .ensures
+returns c = c .answer-given .ensures
 
 pub answer-spec : {M : Type 1} → statement M
-answer-spec = tie.close (tie.spec loadable-requires answer-if-requires returns)
+answer-spec = tie.close (tie.spec loadable-requires answer-given-requires returns)

@@ -34,32 +34,32 @@ loop-holds c = (replaying-start _ _ _ _, c .loadable .ensures)
 mul-at : tie.Need-mul-at Inv-loop μ-loop
 mul-at c = omega (arith, fits c .0, entry c .good .1 .0)
 
-shared-slice-read-answer-if : tie.Need-shared-slice-read-answer-if Inv-loop μ-loop
-shared-slice-read-answer-if c = omega (arith, fits (c .before) .0)
+shared-slice-read-answer-given : tie.Need-shared-slice-read-answer-given Inv-loop μ-loop
+shared-slice-read-answer-given c = omega (arith, fits (c .before) .0)
 
-add-answer-if : tie.Need-add-answer-if Inv-loop μ-loop
-add-answer-if c = omega (arith, fits (c .before) .0, entry (c .before) .good .1 .0)
+add-answer-given : tie.Need-add-answer-given Inv-loop μ-loop
+add-answer-given c = omega (arith, fits (c .before) .0, entry (c .before) .good .1 .0)
 
-shared-slice-read-answer-if-2 : tie.Need-shared-slice-read-answer-if-2 Inv-loop μ-loop
-shared-slice-read-answer-if-2 c = omega (arith, fits (c .before .before) .0)
+shared-slice-read-answer-given-2 : tie.Need-shared-slice-read-answer-given-2 Inv-loop μ-loop
+shared-slice-read-answer-given-2 c = omega (arith, fits (c .before .before) .0)
 
-add-answer-if-2 : tie.Need-add-answer-if-2 Inv-loop μ-loop
-add-answer-if-2 c = omega (arith, fits (c .before .before) .0, entry (c .before .before) .good .1 .0)
+add-answer-given-2 : tie.Need-add-answer-given-2 Inv-loop μ-loop
+add-answer-given-2 c = omega (arith, fits (c .before .before) .0, entry (c .before .before) .good .1 .0)
 
-shared-slice-read-answer-if-3 : tie.Need-shared-slice-read-answer-if-3 Inv-loop μ-loop
-shared-slice-read-answer-if-3 c = omega (arith, fits (c .before .before .before) .0)
+shared-slice-read-answer-given-3 : tie.Need-shared-slice-read-answer-given-3 Inv-loop μ-loop
+shared-slice-read-answer-given-3 c = omega (arith, fits (c .before .before .before) .0)
 
-add-answer-if-3 : tie.Need-add-answer-if-3 Inv-loop μ-loop
-add-answer-if-3 c = omega (arith, fits (c .before .before .before) .0, entry (c .before .before .before) .good .1 .0)
+add-answer-given-3 : tie.Need-add-answer-given-3 Inv-loop μ-loop
+add-answer-given-3 c = omega (arith, fits (c .before .before .before) .0, entry (c .before .before .before) .good .1 .0)
 
-shared-slice-read-answer-if-4 : tie.Need-shared-slice-read-answer-if-4 Inv-loop μ-loop
-shared-slice-read-answer-if-4 c = omega (arith, fits (c .before .before .before .before) .0)
+shared-slice-read-answer-given-4 : tie.Need-shared-slice-read-answer-given-4 Inv-loop μ-loop
+shared-slice-read-answer-given-4 c = omega (arith, fits (c .before .before .before .before) .0)
 
 loadable-requires : tie.Need-loadable-requires Inv-loop μ-loop
 loadable-requires c κs = search needs
 
-answer-if-requires : tie.Need-answer-if-requires Inv-loop μ-loop
-answer-if-requires c κs = c .before .before .before .before .before .loop .inv .1
+answer-given-requires : tie.Need-answer-given-requires Inv-loop μ-loop
+answer-given-requires c κs = c .before .before .before .before .before .loop .inv .1
 
 mul-put-answer : tie.Need-mul-put-answer Inv-loop μ-loop
 mul-put-answer c = omega (arith, fits (c .before .before .before .before .before .before) .1, entry (c .before .before .before .before .before .before) .good .1 .1 .0)
@@ -76,7 +76,7 @@ loop-less c = omega arith
 loop-again : tie.Need-loop-again Inv-loop μ-loop
 loop-again c =
     let h = c .before .before .before .before .before .before .before .before .before .before in
-    let got = c .before .before .before .before .before .answer-if in
+    let got = c .before .before .before .before .before .answer-given in
     let at-loop = h .before .loop .inv in (
       replaying-more (at-loop .0) (fits h .1) (got .result) (h .loop-test .taken) (got .ensures) (c .before .before .before .put-answer .ensures),
       at-loop .1 ∙ sym (ap (λ (x : Answer). loadable (x .rules)) (got .ensures) ∙ answer-loads _ _),
@@ -98,14 +98,14 @@ replay-spec =
     loadable-requires
     loop-holds
     mul-at
-    shared-slice-read-answer-if
-    add-answer-if
-    shared-slice-read-answer-if-2
-    add-answer-if-2
-    shared-slice-read-answer-if-3
-    add-answer-if-3
-    shared-slice-read-answer-if-4
-    answer-if-requires
+    shared-slice-read-answer-given
+    add-answer-given
+    shared-slice-read-answer-given-2
+    add-answer-given-2
+    shared-slice-read-answer-given-3
+    add-answer-given-3
+    shared-slice-read-answer-given-4
+    answer-given-requires
     mul-put-answer
     put-answer-requires
     add-i

@@ -29,11 +29,11 @@ leading-to-requires c κs = let s = c .before .before in (hierarchy-pairs (s .ar
 loop-holds : tie.Need-loop-holds Inv-loop μ-loop
 loop-holds c = (λ k l. absurd (omega arith), refl, omega arith)
 
-element-copy-out-place : tie.Need-element-copy-out-place Inv-loop μ-loop
-element-copy-out-place c = let n = table-few _ principal (c .before .before .before .before .before .before .pre principal) in omega arith
+element-copy-out-index : tie.Need-element-copy-out-index Inv-loop μ-loop
+element-copy-out-index c = let n = table-few _ principal (c .before .before .before .before .before .before .pre principal) in omega arith
 
-place-requires : tie.Need-place-requires Inv-loop μ-loop
-place-requires c κs = search needs
+index-requires : tie.Need-index-requires Inv-loop μ-loop
+index-requires c κs = search needs
 
 mul-gathered : tie.Need-mul-gathered Inv-loop μ-loop
 mul-gathered c =
@@ -41,7 +41,7 @@ mul-gathered c =
     let s = l .before .before .before .before .before in
     let d = principal-named (s .args .t1) (s .pre) (l .loop .p) (omega arith) .1 in
     let n = table-few _ demarcation (s .pre demarcation) in
-    omega (arith, c .place .ensures)
+    omega (arith, c .index .ensures)
 
 array-read-gathered : tie.Need-array-read-gathered Inv-loop μ-loop
 array-read-gathered c =
@@ -49,7 +49,7 @@ array-read-gathered c =
     let s = l .before .before .before .before .before in
     let d = principal-named (s .args .t1) (s .pre) (l .loop .p) (omega arith) .1 in
     let n = table-few _ demarcation (s .pre demarcation) in
-    omega (arith, c .place .ensures)
+    omega (arith, c .index .ensures)
 
 gathered-requires : tie.Need-gathered-requires Inv-loop μ-loop
 gathered-requires c κs = table-few _ demarcation (c .before .before .before .before .before .before .before .before .pre demarcation)
@@ -79,11 +79,11 @@ loop-again c =
     let l = c .before .before .before .before in
     let s = l .before .before .before .before .before in
     let r = s .args .t1 in
-    let e = c .before .place .ensures in
+    let e = c .before .index .ensures in
     let n = table-few _ principal (s .pre principal) in
     let d = principal-named r (s .pre) (l .loop .p) (omega arith) .1 in
-    let marks = l .before .before .«leading-to» .ensures (c .before .place .result) (omega (arith, e)) in
-    let new = demarcation-gathers r (c .before .place .result) _ (c .gathered .result) marks (c .gathered .ensures) in (
+    let marks = l .before .before .«leading-to» .ensures (c .before .index .result) (omega (arith, e)) in
+    let new = demarcation-gathers r (c .before .index .result) _ (c .gathered .result) marks (c .gathered .ensures) in (
       stored (λ k g. (j : ℕ) → (In j g ↔ (demarcationHas r (at (r .«principal_demarcations») k) j ≡ true))) (l .loop .grants) (l .loop .p) (c .gathered .result) (omega arith) (l .loop .inv .0)
           (subst (λ (d : ℕ). (j : ℕ) → (In j (c .gathered .result) ↔ (demarcationHas r d j ≡ true))) e new),
       simp length-set (l .loop .inv .1),
@@ -101,8 +101,8 @@ grants-of-spec =
     μ-loop
     leading-to-requires
     loop-holds
-    element-copy-out-place
-    place-requires
+    element-copy-out-index
+    index-requires
     mul-gathered
     array-read-gathered
     gathered-requires

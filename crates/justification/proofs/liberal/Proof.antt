@@ -6,11 +6,11 @@ use Rattle.justification.proofs.liberal.Tie as tie
 loadable-requires : tie.Need-loadable-requires
 loadable-requires c κs = search needs
 
-liberal-if-requires : tie.Need-liberal-if-requires
-liberal-if-requires c κs = c .loadable .ensures
+liberal-given-requires : tie.Need-liberal-given-requires
+liberal-given-requires c κs = c .loadable .ensures
 
 returns : tie.Need-returns
-returns c = c .liberal-if .ensures
+returns c = c .liberal-given .ensures
 
 pub liberal-spec : {M : Type 1} → statement M
-liberal-spec = tie.close (tie.spec loadable-requires liberal-if-requires returns)
+liberal-spec = tie.close (tie.spec loadable-requires liberal-given-requires returns)

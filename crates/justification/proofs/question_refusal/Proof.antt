@@ -6,7 +6,7 @@ use borrow.Author.Tests.{not-true, not-false}
 use Rattle.policy.specs.Table.{user}
 use borrow.Author.Needs.{needs}
 use Rattle.policy.specs.LoadableLaws.{table-few, loadable-table}
-use Rattle.justification.proofs.Asking.{not-loadable, no-method, no-object, not-user, may-ask}
+use Rattle.justification.proofs.Asking.{user-in, not-loadable, no-method, no-object, not-user, may-ask}
 use Rattle.justification.proofs.question_refusal.Statement.{statement}
 use Rattle.justification.proofs.question_refusal.Tie as tie
 
@@ -42,13 +42,13 @@ returns-4 : tie.Need-returns-4
 returns-4 c =
     let e3 = c .before .before in
     let e2 = second-passed e3 in
-    not-user _ _ (loads (first-passed e2)) (e2 .if2 .left) (e3 .if3 .left) (sym (c .before .is-user .ensures) ∙ not-true _ (c .if4 .taken))
+    not-user _ _ (loads (first-passed e2)) (e2 .if2 .left) (e3 .if3 .left) (sym (user-in _ _) ∙ sym (c .before .is-user .ensures) ∙ not-true _ (c .if4 .taken))
 
 returns-5 : tie.Need-returns-5
 returns-5 c =
     let e3 = c .before .before in
     let e2 = second-passed e3 in
-    may-ask _ _ (loads (first-passed e2)) (e2 .if2 .left) (e3 .if3 .left) (sym (c .before .is-user .ensures) ∙ not-false _ (c .if4 .left))
+    may-ask _ _ (loads (first-passed e2)) (e2 .if2 .left) (e3 .if3 .left) (sym (user-in _ _) ∙ sym (c .before .is-user .ensures) ∙ not-false _ (c .if4 .left))
 
 pub question-refusal-spec : {M : Type 1} → statement M
 question-refusal-spec =

@@ -1,0 +1,2 @@
+mod Memos
+mod Weighing

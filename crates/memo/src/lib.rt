@@ -1,0 +1,226 @@
+// The memo of a record, and the steps of the two questions on it: what is evaluated and entered, member by member or all at once.
+
+ghost use mathlib.Core.Path.{_≡_};
+ghost use mathlib.Core.Bool.{true, not, cond};
+ghost use Prim.Native.Nat.{ℕ, _≤_, _<_};
+ghost use Rattle.common.specs.Limits.{mostEdges, mostFormulas, mostPrincipals};
+ghost use Rattle.common.specs.Lists.{at, below};
+ghost use Rattle.policy.specs.Table.{Kind};
+ghost use Rattle.policy.specs.Loadable.{tableLoads};
+ghost use Rattle.formula.specs.Formula.{trueBelow};
+ghost use Rattle.formula.specs.Evaluation.{formulasIn, edgesIn, contextOf};
+ghost use Rattle.justification.specs.Justification.{members};
+ghost use Rattle.justification.specs.Parts.{Marks};
+ghost use Rattle.memo.specs.Memo.{known, value, memoFor};
+ghost use Rattle.memo.specs.Memo as memos;
+ghost use Rattle.memo.specs.Walk.{evaluatedAll, tried};
+ghost use Rattle.memo.specs.WalkLaws.{MemoLengths};
+ghost use Rattle.memo.specs.Evaluation.{trueFor, weighedOf};
+use common::MOST_EDGES;
+use common::MOST_FORMULAS;
+use common::MOST_PRINCIPALS;
+use justification::Question;
+use policy::Memo;
+use policy::Record;
+
+// What weighing a candidate came to: whether all its members are enabled, and the memo as it then is.
+pub struct Tried {
+    pub survives: bool,
+    pub memo: Memo,
+}
+
+// The memo for a question: if its pair differs, it is first emptied and takes the new pair.
+pub fn memo_for(memo: Memo, question: Question) -> Memo
+    ensures { λ r. ⌜ (r ≡ memoFor memo question) × MemoLengths r ⌝ }
+{
+    if memo.object != question.object {
+        return policy::emptied(question.object, question.requestor);
+    }
+    if memo.requestor != question.requestor {
+        return policy::emptied(question.object, question.requestor);
+    }
+    memo
+}
+
+// Formula f evaluated at the object, unless known. The columns of edges and formulas are lent, so that none is copied.
+fn evaluated<'a>(
+    memo: Memo,
+    edge_count: usize,
+    labels: &'a [u8; MOST_EDGES],
+    sources: &'a [u8; MOST_EDGES],
+    targets: &'a [u8; MOST_EDGES],
+    ops: &'a [u8; MOST_FORMULAS],
+    lefts: &'a [u8; MOST_FORMULAS],
+    rights: &'a [u8; MOST_FORMULAS],
+    roles: u16,
+    object: u8,
+    requestor: u8,
+    f: usize,
+) -> Memo
+    requires { ⌜ («edge_count» ≤ mostEdges) × (f < mostFormulas) ⌝ }
+    ensures { λ r. ⌜ r ≡ memos.evaluated
+        (λ g. trueBelow (formulasIn (now (ops .entry)) (now (lefts .entry)) (now (rights .entry)))
+        (contextOf roles object requestor (edgesIn «edge_count» (now (labels .entry)) (now (sources .entry)) (now (targets .entry))))
+        mostFormulas g object) memo f ⌝ }
+{
+    if memo.known[f] {
+        return memo;
+    }
+    let value = formula::true_at_object(
+        edge_count,
+        labels,
+        sources,
+        targets,
+        ops,
+        lefts,
+        rights,
+        roles,
+        object,
+        requestor,
+        f,
+    );
+    let mut noted = memo;
+    noted.known[f] = true;
+    noted.value[f] = value;
+    noted
+}
+
+// 1 where the test is passed, else 0.
+fn counted(passed: bool) -> u8
+    ensures { λ r. ⌜ (r ≡ cond passed 1 0) × (r ≤ 1) ⌝ }
+{
+    if passed {
+        return 1;
+    }
+    0
+}
+
+// How many formulas are known after and were not known before.
+pub fn newly(before: Memo, after: Memo) -> u8
+    ensures { λ r. ⌜ r ≡ memos.newly before after ⌝ }
+{
+    let mut count: u8 = 0;
+    let mut f: usize = 0;
+    while f < MOST_FORMULAS {
+        let more = counted(after.known[f] & !before.known[f]);
+        count += more;
+        f += 1;
+    }
+    count
+}
+
+// A principal's formula as an index of the memo.
+fn index(x: u8) -> usize
+    ensures { λ r. ⌜ r ≡ x ⌝ }
+{
+    x as usize
+}
+
+// Each principal in rising number has its formula evaluated, unless known.
+pub fn evaluated_all(rules: Record, memo: Memo, roles: u16, question: Question) -> Memo
+    requires { ⌜ ((j : Kind) → tableLoads rules j ≡ true) ⌝ }
+    ensures { λ r. ⌜ r ≡ evaluatedAll (trueFor rules roles question) rules memo (below (rules .«principal_count»)) ⌝ }
+{
+    let count = rules.principal_count;
+    let object = question.object;
+    let requestor = question.requestor;
+    let mut m = memo;
+    let mut p: usize = 0;
+    while p < count {
+        let f = index(rules.principal_formulas[p]);
+        let more = evaluated(
+            m,
+            rules.edge_count,
+            &rules.edge_labels,
+            &rules.edge_sources,
+            &rules.edge_targets,
+            &rules.formula_ops,
+            &rules.formula_lefts,
+            &rules.formula_rights,
+            roles,
+            object,
+            requestor,
+            f,
+        );
+        m = more;
+        p += 1;
+    }
+    m
+}
+
+// Of so many principals, whose formulas are lent, those with the value true in the memo.
+pub fn valued<'a>(count: usize, formulas: &'a [u8; MOST_PRINCIPALS], memo: Memo) -> u32
+    requires { ⌜ (count ≤ mostPrincipals) × ((p : ℕ) → p < count → at (now formulas) p < mostFormulas) ⌝ }
+    ensures { λ r. ⌜ Marks count (λ p. value memo (at (now (formulas .entry)) p)) r ⌝ }
+{
+    let mut s: u32 = 0;
+    let mut p: usize = 0;
+    while p < count {
+        let f = index(formulas[p]);
+        let more = justification::marked(s, p, memo.value[f]);
+        s = more;
+        p += 1;
+    }
+    s
+}
+
+// Of so many principals, whose formulas are lent, those that are not known false.
+pub fn not_known_false<'a>(count: usize, formulas: &'a [u8; MOST_PRINCIPALS], memo: Memo) -> u32
+    requires { ⌜ (count ≤ mostPrincipals) × ((p : ℕ) → p < count → at (now formulas) p < mostFormulas) ⌝ }
+    ensures { λ r. ⌜ Marks count
+        (λ p. not (known memo (at (now (formulas .entry)) p) && not (value memo (at (now (formulas .entry)) p)))) r ⌝ }
+{
+    let mut s: u32 = 0;
+    let mut p: usize = 0;
+    while p < count {
+        let f = index(formulas[p]);
+        let more = justification::marked(s, p, !(memo.known[f] & !memo.value[f]));
+        s = more;
+        p += 1;
+    }
+    s
+}
+
+// The members of c in rising number are evaluated, unless known; the first that is not enabled ends it.
+pub fn weigh(rules: Record, memo: Memo, roles: u16, question: Question, c: u32) -> Tried
+    requires { ⌜ ((j : Kind) → tableLoads rules j ≡ true) ⌝ }
+    ensures { λ r. ⌜ weighedOf r ≡ tried (trueFor rules roles question) rules memo (members rules c) ⌝ }
+{
+    let count = rules.principal_count;
+    let object = question.object;
+    let requestor = question.requestor;
+    let mut m = memo;
+    let mut p: usize = 0;
+    while p < count {
+        let member = p;
+        p += 1;
+        if search::has(c, member) {
+            let f = index(rules.principal_formulas[member]);
+            let more = evaluated(
+                m,
+                rules.edge_count,
+                &rules.edge_labels,
+                &rules.edge_sources,
+                &rules.edge_targets,
+                &rules.formula_ops,
+                &rules.formula_lefts,
+                &rules.formula_rights,
+                roles,
+                object,
+                requestor,
+                f,
+            );
+            m = more;
+            if !m.value[f] {
+                return Tried {
+                    survives: false,
+                    memo: m,
+                };
+            }
+        }
+    }
+    Tried {
+        survives: true,
+        memo: m,
+    }
+}
