@@ -1,5 +1,5 @@
 -- Document 01's limits, and the rooms that follow from them. The code has the same numbers by the same names (`src/lib.rt`).
-use Prim.Native.Nat.{ℕ}
+use Prim.Native.Nat.{ℕ, max}
 
 -- "object count N (1 to 255)"; "Rising by object": at most one user line for each
 abbrev pub mostObjects : ℕ
@@ -23,6 +23,10 @@ mostDemarcations = 20
 -- kind 07: "at most 20"
 abbrev pub mostPrincipals : ℕ
 mostPrincipals = 20
+
+-- the hierarchy relates demarcations, the prerequisites principals: at most so many things of either kind
+abbrev pub mostRelated : ℕ
+mostRelated = max mostDemarcations mostPrincipals
 
 -- kind 0A: "at most 32"
 abbrev pub mostMethods : ℕ
