@@ -17,7 +17,8 @@ use Rattle.common.specs.SetLaws.{in-lt, in-ge, in-pow, pow-in, in-sum-l, in-sum
 use Rattle.search.specs.declared.Masks.{Masks}
 use Rattle.search.specs.declared.Found.the-variants.{Nothing}
 use Rattle.search.specs.Search.{Met, Least}
-use Rattle.search.specs.Steps.{MetBy, ConflictFree, NoneHolds, Gives, Asks, NoneFrom, NeededBy, WithinFrom, Joins, State, NoCompletion}
+use Rattle.search.specs.Steps.{MetBy, ConflictFree, NoneHolds, Gives, Asks, NoneFrom}
+use Rattle.search.specs.Steps.{NeededBy, WithinFrom, Joins, State, NoCompletion}
 use Rattle.search.proofs.Steps.{«with», top-small, ones-zero}
 
 -- ---- the members from n on

@@ -37,7 +37,14 @@ ones-top m x l = ap (λ (z : ℕ). ones (z + x)) (sym (one-mul (2 ^ m))) ∙ one
 
 module _ {r : Masks} {n c : ℕ} where
   pub chosen-alone : Candidate r c → LeastCompletion r n 0 c c
-  chosen-alone d = record { more = 0; is = omega arith; below = pow-pos n; size = ones-zero; candidate = d; smallest = λ y l e x. omega arith }
+  chosen-alone d = record {
+    more = 0;
+    is = omega arith;
+    below = pow-pos n;
+    size = ones-zero;
+    candidate = d;
+    smallest = λ y l e x. omega arith;
+  }
 
   pub chosen-fails : (Candidate r c → ⊥) → NoCompletion r n 0 c
   chosen-fails f = record { none = λ y l e d. f (subst (λ (z : ℕ). Candidate r z) (omega (arith, no-ones y e)) d) }

@@ -1,4 +1,5 @@
--- `possible` and `by_giver` call one another and meet their contracts: at depth d the measures are (m + 2)d + m + 1 and (m + 2)d + (m - p), m the most principals.
+-- `possible` and `by_giver` call one another and meet their contracts. With m the most principals, at depth d the measures are
+-- (m + 2)d + m + 1 and (m + 2)d + (m - p).
 use native.Mathlib.Omega.{arith}
 use mathlib.Core.Path.{subst}
 use mathlib.Core.Logic.{⊎-elim}

@@ -113,7 +113,7 @@ search-has-requires t c κs = omega (arith, in-range (c .before .before))
 search-add-requires : (t : ℕ) → search-lts.Need-add-requires (claims t) (search-at t) search′.Post
 search-add-requires t c κs = in-range (c .before .before .before .before)
 
--- where m is passed by, from the place past those tests
+-- where m is passed by: what those tests found
 module _ {t : ℕ} (c : search-lts.After-add (claims t) (search-at t) search′.Post) where
   abbrev passed-by : search-lts.Else3 (claims t) (search-at t) search′.Post
   passed-by = c .before .before .before .before .before
@@ -184,8 +184,9 @@ search-search-requires-2 t c κs =
 
 search-returns-7 : (t : ℕ) → search-lts.Need-returns-7 (claims t) (search-at t) search′.Post
 search-returns-7 t c =
-    let past = tested (joined (c .before)) in
-    step (pos past) (c .search2 .result) (some past) (skipped (joined (c .before))) (rw (c .before .before .with .ensures) at (c .search2 .ensures))
+    let met = joined (c .before) in
+    let past = tested met in
+    step (pos past) (c .search2 .result) (some past) (skipped met) (rw (c .before .before .with .ensures) at (c .search2 .ensures))
 
 pub +search-spec : {M : Type 1} → statement M
 +search-spec = close μ-search λ t. search-lts.spec (claims t)

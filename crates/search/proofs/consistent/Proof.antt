@@ -31,7 +31,8 @@ consistent-in-requires c κs = omega arith
 returns : tie.Need-returns Inv-loop μ-loop
 returns c =
     let then1 = c .before .before in
-    refuted (λ f. c .before .consistent-in .ensures .no (not-true _ (c .if2 .taken)) (f _ (then1 .before .has .ensures .yes (then1 .if1 .taken))))
+    let member = then1 .before .has .ensures .yes (then1 .if1 .taken) in
+    refuted (λ f. c .before .consistent-in .ensures .no (not-true _ (c .if2 .taken)) (f _ member))
 
 add-p : tie.Need-add-p Inv-loop μ-loop
 add-p c = omega arith
