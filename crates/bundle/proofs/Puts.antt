@@ -13,7 +13,7 @@ use Rattle.policy.specs.Table.{Kind, head, user, edge, formula, demarcation, hi
 use Rattle.policy.specs.Loadable.{loadable}
 use Rattle.policy.specs.LoadableLaws.{loadable-table, table-few}
 use Rattle.writing.specs.declared.Draft.{Draft}
-use Rattle.writing.specs.Drafts.{Fits, Put, pairLine, tripleLine, shortLine, wideLine, ledLine}
+use Rattle.writing.specs.Drafts.{RoomFor, Put, pairLine, tripleLine, userLine, demarcationLine, methodLine}
 use Rattle.writing.specs.DraftLaws.{put-join, put-length}
 use Rattle.bundle.specs.Writing.{lineOctets, tableLines, ruleLines}
 use Rattle.bundle.specs.Typed.{Typed}
@@ -24,7 +24,7 @@ use Rattle.bundle.specs.LengthLaws.{lineSize, table-count, table-size, r
 -- ---- room
 
 module _ (k : Kind) (ks : List Kind) (r : Record) {b : List ℕ} {d : Draft} (h : Room b d (ruleLines (k ∷ ks) r)) where
-  pub room-table : Fits b d (count k r) (lineSize k)
+  pub room-table : RoomFor b d (count k r) (lineSize k)
   room-table =
       let l = rest-size k ks r in
       let n = rest-count k ks r in
@@ -37,7 +37,7 @@ module _ (k : Kind) (ks : List Kind) (r : Record) {b : List ℕ} {d : Draft} (h 
         let n = rest-count k ks r in
         let s = table-size k r in
         let t = table-count k r in
-        let q : e .place + length (textOf (ruleLines ks r)) ≤ length b = omega (arith, p .place, h .room, l, s) in
+        let q : e .offset + length (textOf (ruleLines ks r)) ≤ length b = omega (arith, p .offset, h .room, l, s) in
         let same : length c ≡ length b = put-length (omega arith) p in
         record {
           room = omega arith;
@@ -68,7 +68,7 @@ module _ (r : Record) (t : Typed r) where
   pub head-line : framed 0x01 (1 ∷ r .objects ∷ []) ∷ [] ≡ tableLines head r
   head-line = λ j. framed 0x01 (1 ∷ own (t .fits head 0 .1 .0) j ∷ []) ∷ []
 
-  pub user-lines : table (r .«user_count») (shortLine 0x02 (r .«user_objects») (r .«user_roles»)) ≡ tableLines user r
+  pub user-lines : table (r .«user_count») (userLine 0x02 (r .«user_objects») (r .«user_roles»)) ≡ tableLines user r
   user-lines = lines-of user r _ (λ i. λ j. framed 0x02 (own (t .fits user i .0) j ∷ inOctets 2 (at (r .«user_roles») i)))
 
   pub edge-lines : table (r .«edge_count») (tripleLine 0x03 (r .«edge_labels») (r .«edge_sources») (r .«edge_targets»)) ≡ tableLines edge r
@@ -77,7 +77,7 @@ module _ (r : Record) (t : Typed r) where
   pub formula-lines : table (r .«formula_count») (tripleLine 0x04 (r .«formula_ops») (r .«formula_lefts») (r .«formula_rights»)) ≡ tableLines formula r
   formula-lines = lines-of formula r _ (λ i. λ j. framed 0x04 (own (t .fits formula i .0) j ∷ own (t .fits formula i .1 .0) j ∷ own (t .fits formula i .1 .1 .0) j ∷ []))
 
-  pub demarcation-lines : table (r .«demarcation_count») (wideLine 0x05 (r .«demarcation_privileges»)) ≡ tableLines demarcation r
+  pub demarcation-lines : table (r .«demarcation_count») (demarcationLine 0x05 (r .«demarcation_privileges»)) ≡ tableLines demarcation r
   demarcation-lines = lines-of demarcation r _ (λ i. refl)
 
   pub hierarchy-lines : table (r .«hierarchy_count») (pairLine 0x06 (r .inferiors) (r .superiors)) ≡ tableLines hierarchy r
@@ -92,5 +92,5 @@ module _ (r : Record) (t : Typed r) where
   pub prerequisite-lines : table (r .«prerequisite_count») (pairLine 0x09 (r .prerequisites) (r .dependents)) ≡ tableLines prerequisite r
   prerequisite-lines = lines-of prerequisite r _ (λ i. λ j. framed 0x09 (own (t .fits prerequisite i .0) j ∷ own (t .fits prerequisite i .1 .0) j ∷ []))
 
-  pub method-lines : table (r .«method_count») (ledLine 0x0A (r .«method_forms») (r .«method_privileges»)) ≡ tableLines method r
+  pub method-lines : table (r .«method_count») (methodLine 0x0A (r .«method_forms») (r .«method_privileges»)) ≡ tableLines method r
   method-lines = lines-of method r _ (λ i. λ j. framed 0x0A (own (t .fits method i .0) j ∷ inOctets 8 (at (r .«method_privileges») i)))

@@ -10,7 +10,7 @@ use Rattle.policy.specs.declared.Record.{Record}
 use Rattle.policy.specs.Table.{Kind, head, user, edge, formula, demarcation, hierarchy, principal, exclusion, prerequisite, method, end, kinds}
 use Rattle.policy.specs.Loadable.{loadable}
 use Rattle.writing.specs.declared.Draft.{Draft}
-use Rattle.writing.specs.Drafts.{Fits, Put}
+use Rattle.writing.specs.Drafts.{RoomFor, Put}
 use Rattle.writing.specs.DraftLaws.{text-append, put-join, put-length}
 use Rattle.bundle.specs.Writing.{lineOctets, tableLines, ruleLines, withEnd, bundleOf}
 use Rattle.bundle.specs.Parts.{graphLines, groundLines, start, Room}
@@ -48,17 +48,17 @@ module _ (r : Record) where
         room-grounds =
             let l = lengths in
             let n = counts in
-            let same : length c ≡ length b = put-length (omega (arith, p .place)) p in
-            record { room = omega (arith, p .place); few = omega (arith, p .lines); fair = omega (arith, p .lines, p .sum, p .fair) }
+            let same : length c ≡ length b = put-length (omega (arith, p .offset)) p in
+            record { room = omega (arith, p .offset); few = omega (arith, p .lines); fair = omega (arith, p .lines, p .sum, p .fair) }
 
         module _ {a : List ℕ} {e : Draft} (q : Put c a d e (groundLines r)) where
-          pub room-end : Fits a e 1 19
+          pub room-end : RoomFor a e 1 19
           room-end =
               let l = lengths in
               let n = counts in
-              let same : length c ≡ length b = put-length (omega (arith, p .place)) p in
-              let again : length a ≡ length c = put-length (omega (arith, p .place, q .place)) q in
-              record { room = omega (arith, p .place, q .place); few = omega (arith, p .lines, q .lines); fair = omega (arith, p .lines, p .sum, p .fair, q .lines, q .sum, q .fair) }
+              let same : length c ≡ length b = put-length (omega (arith, p .offset)) p in
+              let again : length a ≡ length c = put-length (omega (arith, p .offset, q .offset)) q in
+              record { room = omega (arith, p .offset, q .offset); few = omega (arith, p .lines, q .lines); fair = omega (arith, p .lines, p .sum, p .fair, q .lines, q .sum, q .fair) }
 
           all : Put b a start e (ruleLines kinds r)
           all = subst (Put b a start e) (sym parts) (put-join (omega arith) p q)
@@ -73,13 +73,13 @@ module _ (r : Record) where
               let last : lineOctets end (e .lines ∷ e .sum ∷ []) ∷ [] ≡ lineOctets end (length ls ∷ totals ls ∷ []) ∷ [] =
               λ j. lineOctets end (n j ∷ m j ∷ []) ∷ [] in
               let w = put-join (omega arith) all (subst (Put a z e f) last u) in
-              let end-place : f .place ≡ length (textOf (withEnd ls)) = omega (arith, w .place) in
-              w .bytes ∙ ap (λ (k : ℕ). textOf (withEnd ls) ++ drop k b) end-place
+              let end-offset : f .offset ≡ length (textOf (withEnd ls)) = omega (arith, w .offset) in
+              w .bytes ∙ ap (λ (k : ℕ). textOf (withEnd ls) ++ drop k b) end-offset
 
           pub whole-length : {z : List ℕ} {f : Draft} → Put a z e f (lineOctets end (e .lines ∷ e .sum ∷ []) ∷ []) → length z ≡ length b
           whole-length u =
               let l = lengths in
               let s = end-size (e .lines ∷ e .sum ∷ []) in
-              let same : length c ≡ length b = put-length (omega (arith, p .place)) p in
-              let again : length a ≡ length c = put-length (omega (arith, p .place, q .place)) q in
-              put-length (omega (arith, p .place, q .place, u .place)) u ∙ again ∙ same
+              let same : length c ≡ length b = put-length (omega (arith, p .offset)) p in
+              let again : length a ≡ length c = put-length (omega (arith, p .offset, q .offset)) q in
+              put-length (omega (arith, p .offset, q .offset, u .offset)) u ∙ again ∙ same

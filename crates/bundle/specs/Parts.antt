@@ -3,10 +3,12 @@ use Prim.Native.Nat.{ℕ, _+_, _*_, _≤_}
 use mathlib.Core.Path.{_≡_}
 use mathlib.Core.List.{List, [], _∷_}
 use lib.ListN.{length}
+use Rattle.common.specs.Limits.{mostLines}
 use Rattle.octets.specs.Line.{textOf}
 use Rattle.policy.specs.declared.Record.{Record}
 use Rattle.policy.specs.Table.{head, user, edge, formula, demarcation, hierarchy, principal, exclusion, prerequisite, method}
 use Rattle.writing.specs.declared.Draft.{Draft}
+use Rattle.writing.specs.Drafts.{greatestTotal}
 use Rattle.bundle.specs.declared.Written.{Written}
 use Rattle.bundle.specs.Writing.{ruleLines, written, bufferAfter}
 use Rattle.bundle.specs.Typed.{Typed}
@@ -19,13 +21,13 @@ abbrev pub groundLines : Record → List (List ℕ)
 groundLines r = ruleLines (hierarchy ∷ principal ∷ exclusion ∷ prerequisite ∷ method ∷ []) r
 
 abbrev pub start : Draft
-start = record { place = 0; lines = 0; sum = 0 }
+start = record { offset = 0; lines = 0; sum = 0 }
 
 -- there is room for the lines, and a bundle has no more
 pub record Room (buffer : List ℕ) (d : Draft) (ls : List (List ℕ)) : Type 0 where
-  pub room : d .place + length (textOf ls) ≤ length buffer
-  pub few : d .lines + length ls ≤ 2000
-  pub fair : d .sum ≤ 4096 * d .lines
+  pub room : d .offset + length (textOf ls) ≤ length buffer
+  pub few : d .lines + length ls ≤ mostLines
+  pub fair : d .sum ≤ greatestTotal * d .lines
 
 -- what the writer does: its answer, the buffer afterwards, and that the record is one of its type (so that the laws of round trips speak of it)
 pub record Writes (r : Record) (before after : List ℕ) (answer : Written) : Type 0 where

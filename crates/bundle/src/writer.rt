@@ -6,7 +6,7 @@ ghost use mathlib.Core.List.{[], _∷_};
 ghost use lib.ListN.{length};
 ghost use Rattle.policy.specs.Table.{end};
 ghost use Rattle.policy.specs.Loadable.{loadable};
-ghost use Rattle.writing.specs.Drafts.{Fits, Put};
+ghost use Rattle.writing.specs.Drafts.{RoomFor, Put};
 ghost use Rattle.reading.specs.Body.{widths};
 ghost use Rattle.bundle.specs.Writing.{body, lineOctets, bundleOf, measured};
 ghost use Rattle.bundle.specs.Typed.{Typed};
@@ -58,7 +58,7 @@ fn put_graph(rules: Record, buffer: &mut [u8]) -> Draft
     ensures { λ r. ⌜ Put (now (buffer .entry)) (now (buffer .exit)) start r (graphLines rules) ⌝ }
 {
     let from = Draft {
-        place: 0,
+        offset: 0,
         lines: 0,
         sum: 0,
     };
@@ -140,7 +140,7 @@ fn end_body(lines: usize, sum: usize) -> [u8; 6]
 
 // The end line, after all others.
 fn put_end(buffer: &mut [u8], from: Draft) -> Draft
-    requires { ⌜ Fits (now buffer) from 1 19 ⌝ }
+    requires { ⌜ RoomFor (now buffer) from 1 19 ⌝ }
     ensures { λ r. ⌜ Put (now (buffer .entry)) (now (buffer .exit)) from r (lineOctets end (from .lines ∷ from .sum ∷ []) ∷ []) ⌝ }
 {
     let body = end_body(from.lines, from.sum);

@@ -9,20 +9,21 @@ use Rattle.closure.specs.ClosureFact.{star-trans, star-one}
 
 -- C after the numbers below k have been gone through: R is in it, it is reflexive there and transitive through them, and what is in it
 -- beside R is between numbers below n and within the closure
-pub record Upto (n : ℕ) (R : Rel) (k : ℕ) (C : Rel) : Type 0 where
+pub record ClosedThrough (n : ℕ) (R : Rel) (k : ℕ) (C : Rel) : Type 0 where
   pub base : (x y : ℕ) → R x y → C x y
   pub diag : (x : ℕ) → x < k → C x x
   pub through : (a x y : ℕ) → a < k → x < n → y < n → C x a → C a y → C x y
   pub sound : (x y : ℕ) → C x y → R x y ⊎ ((x < n) × (y < n) × Star (Below n R) x y)
 
--- in the turn for k, D after the rows below i: C is in it, and in these rows every place that a way through k leads to; nothing else but such places
-pub record Turning (n k i : ℕ) (C D : Rel) : Type 0 where
+-- in the turn for k, D after the rows below i: C is in it, and in these rows every cell that a way through k leads to;
+-- nothing else but such cells
+pub record RowsDone (n k i : ℕ) (C D : Rel) : Type 0 where
   pub kept : (x y : ℕ) → C x y → D x y
   pub only : (x y : ℕ) → D x y → C x y ⊎ ((x < n) × (y < n) × C x k × C k y)
   pub done : (x y : ℕ) → x < i → y < n → C x k → C k y → D x y
 
--- in row i, D after the places before j: C is in it, and of these places those that k leads to; nothing else but such places of the row
-pub record Along (n k i j : ℕ) (C D : Rel) : Type 0 where
+-- in row i, D after the cells before j: C is in it, and of these cells those that k leads to; nothing else but such cells of the row
+pub record CellsDone (n k i j : ℕ) (C D : Rel) : Type 0 where
   pub kept : (x y : ℕ) → C x y → D x y
   pub only : (x y : ℕ) → D x y → C x y ⊎ ((x ≡ i) × (y < n) × C k y)
   pub done : (y : ℕ) → y < j → C k y → D i y
@@ -37,17 +38,17 @@ under : (x i : ℕ) → x < i + 1 → (x < i) ⊎ (x ≡ i)
 under x i l = ⊎-elim (λ e. inr e) (λ h. inl h) (eq-or-lt-of-le (let h : x ≤ i = omega arith in h))
 
 module _ {n k i : ℕ} {C : Rel} where
-  pub along-start : Along n k i 0 C C
-  along-start = record { kept = λ x y r. r; only = λ x y r. inl r; done = λ y l. absurd (omega arith) }
+  pub cells-none : CellsDone n k i 0 C C
+  cells-none = record { kept = λ x y r. r; only = λ x y r. inl r; done = λ y l. absurd (omega arith) }
 
-  module _ {j : ℕ} {D : Rel} (a : Along n k i j C D) where
+  module _ {j : ℕ} {D : Rel} (a : CellsDone n k i j C D) where
     next : {E : Rel} → ((x y : ℕ) → D x y → E x y) → (C k j → E i j) → (y : ℕ) → y < j + 1 → C k y → E i y
     next {E} more new y l q =
         ⊎-elim (λ l′. more i y (a .done y l′ q)) (λ e. subst (E i) (sym e) (new (subst (C k) e q))) (under y j l)
 
-    -- the place (i, j) is put in, since k leads to j
-    pub along-add : {E : Rel} → j < n → D k j → With i j D E → Along n k i (j + 1) C E
-    along-add lj q w =
+    -- the cell (i, j) is put in, since k leads to j
+    pub cells-more : {E : Rel} → j < n → D k j → With i j D E → CellsDone n k i (j + 1) C E
+    cells-more lj q w =
         record {
           kept = λ x y r. w .kept x y (a .kept x y r);
           only = λ x y r. ⊎-elim
@@ -58,15 +59,15 @@ module _ {n k i : ℕ} {C : Rel} where
         }
 
     -- or it is not, since k does not lead to j
-    pub along-skip : (D k j → ⊥) → Along n k i (j + 1) C D
-    along-skip no′ =
+    pub cells-skip : (D k j → ⊥) → CellsDone n k i (j + 1) C D
+    cells-skip no′ =
         record { kept = a .kept; only = a .only; done = next (λ x y r. r) (λ q. absurd (no′ (a .kept k j q))) }
 
 module _ {n k : ℕ} {C : Rel} where
-  pub turning-start : Turning n k 0 C C
-  turning-start = record { kept = λ x y r. r; only = λ x y r. inl r; done = λ x y l. absurd (omega arith) }
+  pub rows-none : RowsDone n k 0 C C
+  rows-none = record { kept = λ x y r. r; only = λ x y r. inl r; done = λ x y l. absurd (omega arith) }
 
-  module _ {i : ℕ} {D : Rel} (t : Turning n k i C D) where
+  module _ {i : ℕ} {D : Rel} (t : RowsDone n k i C D) where
     -- what leads to k, and what k leads to, does not change
     into : {x : ℕ} → D x k → C x k
     into p = ⊎-elim (λ q. q) (λ q. q .2) (t .only _ k p)
@@ -83,8 +84,8 @@ module _ {n k : ℕ} {C : Rel} where
         (under x i l)
 
     -- row i is gone through, since i leads to k
-    pub turning-along : {j : ℕ} {E : Rel} → i < n → j ≡ n → D i k → Along n k i j D E → Turning n k (i + 1) C E
-    turning-along li all p a =
+    pub rows-more : {j : ℕ} {E : Rel} → i < n → j ≡ n → D i k → CellsDone n k i j D E → RowsDone n k (i + 1) C E
+    rows-more li all p a =
         record {
           kept = λ x y r. a .kept x y (t .kept x y r);
           only = λ x y r. ⊎-elim
@@ -95,22 +96,22 @@ module _ {n k : ℕ} {C : Rel} where
         }
 
     -- or it is not, since i does not lead to k
-    pub turning-apart : (D i k → ⊥) → Turning n k (i + 1) C D
-    turning-apart no′ =
+    pub rows-skip : (D i k → ⊥) → RowsDone n k (i + 1) C D
+    rows-skip no′ =
         record { kept = t .kept; only = t .only; done = more-rows (λ x y r. r) (λ y _ p _. absurd (no′ (t .kept i k p))) }
 
 module _ {n : ℕ} {R : Rel} where
-  pub upto-start : Upto n R 0 R
-  upto-start =
+  pub through-none : ClosedThrough n R 0 R
+  through-none =
       record { base = λ x y r. r; diag = λ x l. absurd (omega arith); through = λ a x y l. absurd (omega arith); sound = λ x y r. inl r }
 
-  module _ {k : ℕ} {C : Rel} (u : Upto n R k C) where
+  module _ {k : ℕ} {C : Rel} (u : ClosedThrough n R k C) where
     way : {x y : ℕ} → x < n → y < n → C x y → Star (Below n R) x y
     way lx ly p = ⊎-elim (λ r. star-one (lx, ly, r)) (λ w. w .2) (u .sound _ _ p)
 
     -- the closure, at the end
-    pub upto-end : k ≡ n → Closes n R C
-    upto-end all =
+    pub through-all : k ≡ n → Closes n R C
+    through-all all =
         record {
           inside = λ i j li lj. (way li lj, back li lj);
           outside = λ i j out. (λ p. ⊎-elim (λ r. r) (λ w. absurd (out (w .0) (w .1))) (u .sound i j p), u .base i j);
@@ -121,8 +122,8 @@ module _ {n : ℕ} {R : Rel} where
         back lx ly (step r p) = u .through _ _ _ (let l = r .1 in omega arith) lx ly (u .base _ _ (r .2)) (back (r .1) ly p)
 
     -- k itself is put in
-    pub upto-self : {D : Rel} → k < n → With k k C D → Upto n R k D
-    upto-self {D} l w =
+    pub through-self : {D : Rel} → k < n → With k k C D → ClosedThrough n R k D
+    through-self {D} l w =
         record {
           base = λ x y r. w .kept x y (u .base x y r);
           diag = λ x a. w .kept x x (u .diag x a);
@@ -138,8 +139,8 @@ module _ {n : ℕ} {R : Rel} where
         }
 
     -- and every way through k
-    pub upto-turn : {i : ℕ} {D : Rel} → i ≡ n → k < n → C k k → Turning n k i C D → Upto n R (k + 1) D
-    upto-turn {i} {D} e l self t =
+    pub through-next : {i : ℕ} {D : Rel} → i ≡ n → k < n → C k k → RowsDone n k i C D → ClosedThrough n R (k + 1) D
+    through-next {i} {D} e l self t =
         record {
           base = λ x y r. t .kept x y (u .base x y r);
           diag = λ x a. ⊎-elim
@@ -157,7 +158,11 @@ module _ {n : ℕ} {R : Rel} where
               (t .only x y p);
         }
       where
-        ways : (a x y : ℕ) → a < k → x < n → y < n → C x a ⊎ ((x < n) × (a < n) × C x k × C k a) → C a y ⊎ ((a < n) × (y < n) × C a k × C k y) → D x y
+        -- from x to y at once, or through k
+        Ways : ℕ → ℕ → Type 0
+        Ways x y = C x y ⊎ ((x < n) × (y < n) × C x k × C k y)
+
+        ways : (a x y : ℕ) → a < k → x < n → y < n → Ways x a → Ways a y → D x y
         ways a x y la lx ly (inl p) (inl q) = t .kept x y (u .through a x y la lx ly p q)
         ways a x y la lx ly (inl p) (inr q) = t .done x y (omega arith) ly (u .through a x k la lx l p (q .2)) (q .3)
         ways a x y la lx ly (inr p) (inl q) = t .done x y (omega arith) ly (p .2) (u .through a k y la l ly (p .3) q)

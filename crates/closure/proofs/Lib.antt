@@ -2,4 +2,4 @@
 mod Closing
 mod Square
 mod Relating
-mod Rows
+mod ArraySquare

@@ -30,7 +30,8 @@ module _ {s : ℕ} {m : List (List Bool)} (q : Square s m) (i j : ℕ) (li : i <
     where
       cells-put : (x : ℕ) → x < s → Dec (x ≡ i) → length (getD (put m i j b) x []) ≡ s
       cells-put x lx (yes e) =
-          subst (λ (z : ℕ). length (getD (put m i j b) z []) ≡ s) (sym e) (ap length (row-same b) ∙ length-set (getD m i []) j b ∙ q .cells i li)
+          subst (λ (z : ℕ). length (getD (put m i j b) z []) ≡ s) (sym e)
+          (ap length (row-same b) ∙ length-set (getD m i []) j b ∙ q .cells i li)
       cells-put x lx (no h) = ap length (getD-set-other m i x _ [] h) ∙ q .cells x lx
 
   pub with-put : With i j (On m) (On (put m i j true))
@@ -46,12 +47,16 @@ module _ {s : ℕ} {m : List (List Bool)} (q : Square s m) (i j : ℕ) (li : i <
           ap (λ (r : List Bool). getD r j false) (row-same true)
           ∙ getD-set-same (getD m i []) j true false (let r = q .cells i li in omega arith)
 
-      other : (x y : ℕ) → Dec (x ≡ i) → Dec (y ≡ j) → ((x ≡ i) × (y ≡ j)) ⊎ (getD (getD (put m i j true) x []) y false ≡ getD (getD m x []) y false)
+      -- (x, y) is (i, j), or is as it was
+      Other : ℕ → ℕ → Type 0
+      Other x y = ((x ≡ i) × (y ≡ j)) ⊎ (getD (getD (put m i j true) x []) y false ≡ getD (getD m x []) y false)
+
+      other : (x y : ℕ) → Dec (x ≡ i) → Dec (y ≡ j) → Other x y
       other x y (yes e) (yes f) = inl (e, f)
       other x y (yes e) (no g) =
           inr (subst (λ (z : ℕ). getD (getD (put m i j true) z []) y false ≡ getD (getD m z []) y false) (sym e)
           (ap (λ (r : List Bool). getD r y false) (row-same true) ∙ getD-set-other (getD m i []) j y true false g))
       other x y (no h) d = inr (ap (λ (r : List Bool). getD r y false) (getD-set-other m i x _ [] h))
 
-      on-other : (x y : ℕ) → ((x ≡ i) × (y ≡ j)) ⊎ (getD (getD (put m i j true) x []) y false ≡ getD (getD m x []) y false)
+      on-other : (x y : ℕ) → Other x y
       on-other x y = other x y (ℕ-discrete x i) (ℕ-discrete y j)

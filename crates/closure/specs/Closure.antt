@@ -7,6 +7,7 @@ use mathlib.Core.Bool.{Bool, true, false, _&&_, _||_}
 use mathlib.Core.List.{List, [], _∷_}
 use lib.ListN.{getD}
 use lib.Dec.{eqb}
+use Rattle.common.specs.Limits.{mostRelated}
 use Rattle.common.specs.Lists.{at, any, table}
 
 abbrev pub Rel : Type 1
@@ -46,6 +47,10 @@ pairsOf n firsts seconds = table n (λ e. at firsts e ∷ at seconds e ∷ [])
 abbrev pub Listed : List (List ℕ) → Rel
 Listed [] i j = ⊥
 Listed (p ∷ ps) i j = ((at p 0 ≡ i) × (at p 1 ≡ j)) ⊎ Listed ps i j
+
+-- the relation m is what the pairs list, between the things that there are
+abbrev pub Relates : List (List ℕ) → List (List Bool) → Type 0
+Relates ps m = (i j : ℕ) → i < mostRelated → j < mostRelated → (On m i j ↔ Listed ps i j)
 
 -- from i one comes to j by steps along the pairs, none or more: without the first pair, or to its start, along it, and on from its end
 unfoldable pub reaches : List (List ℕ) → ℕ → ℕ → Bool

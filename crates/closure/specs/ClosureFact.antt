@@ -39,7 +39,10 @@ pub pairs-more : (n : ℕ) (firsts seconds : List ℕ) (i j : ℕ)
     → (Listed (pairsOf (n + 1) firsts seconds) i j ↔ (Listed (pairsOf n firsts seconds) i j ⊎ ((at firsts n ≡ i) × (at seconds n ≡ j))))
 pairs-more n firsts seconds i j =
     let e = listed-append (pairsOf n firsts seconds) ((at firsts n ∷ at seconds n ∷ []) ∷ []) i j in
-    rw add-one (λ l. ⊎-elim (λ x. inl x) (⊎-elim (λ x. inr x) (λ x. absurd x)) (e .0 l), ⊎-elim (λ x. e .1 (inl x)) (λ x. e .1 (inr (inl x))))
+    rw add-one (
+      λ l. ⊎-elim (λ x. inl x) (⊎-elim (λ x. inr x) (λ x. absurd x)) (e .0 l),
+      ⊎-elim (λ x. e .1 (inl x)) (λ x. e .1 (inr (inl x))),
+    )
 
 abbrev To : List (List ℕ) → Rel
 To ps i j = reaches ps i j ≡ true
@@ -68,8 +71,14 @@ unfolding reaches
 reaches-trans [] i j k e f = eq-eqb i k (eqb-true i j e ∙ eqb-true j k f)
 reaches-trans (p ∷ ps) i j k e f =
     ⊎-elim
-    (λ x. ⊎-elim (λ y. without p ps i k (reaches-trans ps i j k x y)) (λ y. along p ps i k (reaches-trans ps i j (at p 0) x (y .0)) (y .1)) (split p ps j k f))
-    (λ x. ⊎-elim (λ y. along p ps i k (x .0) (reaches-trans ps (at p 1) j k (x .1) y)) (λ y. along p ps i k (x .0) (y .1)) (split p ps j k f))
+    (λ x. ⊎-elim
+    (λ y. without p ps i k (reaches-trans ps i j k x y))
+    (λ y. along p ps i k (reaches-trans ps i j (at p 0) x (y .0)) (y .1))
+    (split p ps j k f))
+    (λ x. ⊎-elim
+    (λ y. along p ps i k (x .0) (reaches-trans ps (at p 1) j k (x .1) y))
+    (λ y. along p ps i k (x .0) (y .1))
+    (split p ps j k f))
     (split p ps i j e)
 
 listed-reaches : (ps : List (List ℕ)) (i j : ℕ) → Listed ps i j → To ps i j

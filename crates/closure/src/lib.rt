@@ -1,10 +1,13 @@
-// The reflexive and transitive closure of a relation on at most 20 things, and whether it holds a circle.
+// The reflexive and transitive closure of a relation on at most `MOST_RELATED` things, and whether it holds a circle.
 
 ghost use mathlib.Core.Path.{_≡_};
-ghost use mathlib.Core.Logic.{_↔_, _⊎_};
+ghost use mathlib.Core.Logic.{_↔_};
 ghost use mathlib.Core.Bool.{true};
-ghost use Prim.Native.Nat.{ℕ, min, _<_};
-ghost use Rattle.closure.specs.Closure.{On, Listed, pairsOf, Below, Star, Circle, Closes};
+ghost use Prim.Native.Nat.{min};
+ghost use Rattle.common.specs.Limits.{mostRelated, mostPairs};
+ghost use Rattle.closure.specs.Closure.{On, pairsOf, Relates, Below, Star, Circle, Closes};
+use common::MOST_PAIRS;
+use common::MOST_RELATED;
 
 // How many of count things there is room for.
 fn at_most(count: usize, limit: usize) -> usize
@@ -16,16 +19,20 @@ fn at_most(count: usize, limit: usize) -> usize
     limit
 }
 
-// The relation that the first count pairs of two columns make: a pair that names a thing above 19 is passed over.
-pub fn related(firsts: [u8; 380], seconds: [u8; 380], count: usize) -> [[bool; 20]; 20]
-    ensures { λ r. ⌜ ((i j : ℕ) → i < 20 → j < 20 → (On r i j ↔ Listed (pairsOf (min count 380) firsts seconds) i j)) ⌝ }
+// The relation that the first count pairs of two columns make: a pair that names a thing beyond those is passed over.
+pub fn related(
+    firsts: [u8; MOST_PAIRS],
+    seconds: [u8; MOST_PAIRS],
+    count: usize,
+) -> [[bool; MOST_RELATED]; MOST_RELATED]
+    ensures { λ r. ⌜ Relates (pairsOf (min count mostPairs) firsts seconds) r ⌝ }
 {
-    let n = at_most(count, 380);
-    let mut m = [[false; 20]; 20];
+    let n = at_most(count, MOST_PAIRS);
+    let mut m = [[false; MOST_RELATED]; MOST_RELATED];
     for e in 0..n {
         let a = firsts[e] as usize;
         let b = seconds[e] as usize;
-        if a < 20 && b < 20 {
+        if a < MOST_RELATED && b < MOST_RELATED {
             m[a][b] = true;
         }
     }
@@ -34,10 +41,13 @@ pub fn related(firsts: [u8; 380], seconds: [u8; 380], count: usize) -> [[bool; 2
 
 // The closure of the relation m on the things below count. Row i is gone through only where i leads to k,
 // so that a sparse relation costs a test for each i and k.
-pub fn closed(m: [[bool; 20]; 20], count: usize) -> [[bool; 20]; 20]
-    ensures { λ r. ⌜ Closes (min count 20) (On m) (On r) ⌝ }
+pub fn closed(
+    m: [[bool; MOST_RELATED]; MOST_RELATED],
+    count: usize,
+) -> [[bool; MOST_RELATED]; MOST_RELATED]
+    ensures { λ r. ⌜ Closes (min count mostRelated) (On m) (On r) ⌝ }
 {
-    let n = at_most(count, 20);
+    let n = at_most(count, MOST_RELATED);
     let mut c = m;
     for k in 0..n {
         c[k][k] = true;
@@ -55,10 +65,10 @@ pub fn closed(m: [[bool; 20]; 20], count: usize) -> [[bool; 20]; 20]
 }
 
 // Whether two different things below count lead to each other in the relation c.
-pub fn has_circle(c: [[bool; 20]; 20], count: usize) -> bool
-    ensures { λ r. ⌜ (r ≡ true ↔ Circle (Below (min count 20) (On c))) ⌝ }
+pub fn has_circle(c: [[bool; MOST_RELATED]; MOST_RELATED], count: usize) -> bool
+    ensures { λ r. ⌜ (r ≡ true ↔ Circle (Below (min count mostRelated) (On c))) ⌝ }
 {
-    let n = at_most(count, 20);
+    let n = at_most(count, MOST_RELATED);
     for i in 0..n {
         for j in 0..n {
             if i != j && c[i][j] && c[j][i] {
@@ -70,8 +80,8 @@ pub fn has_circle(c: [[bool; 20]; 20], count: usize) -> bool
 }
 
 // Whether two different things below count reach each other by steps of the relation m.
-pub fn circular(m: [[bool; 20]; 20], count: usize) -> bool
-    ensures { λ r. ⌜ (r ≡ true ↔ Circle (Star (Below (min count 20) (On m)))) ⌝ }
+pub fn circular(m: [[bool; MOST_RELATED]; MOST_RELATED], count: usize) -> bool
+    ensures { λ r. ⌜ (r ≡ true ↔ Circle (Star (Below (min count mostRelated) (On m)))) ⌝ }
 {
     has_circle(closed(m, count), count)
 }

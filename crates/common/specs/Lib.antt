@@ -3,7 +3,9 @@ pub mod Sets
 pub mod Causes
 pub mod Refusals
 pub mod Limits
+pub mod Order
 pub mod ListLaws
 pub mod BoolLaws
 pub mod SetLaws
 pub mod QuantifierLaws
+pub mod OrderLaws

@@ -1,5 +1,5 @@
 -- Document 01's limits, and the rooms that follow from them. The code has the same numbers by the same names (`src/lib.rt`).
-use Prim.Native.Nat.{ℕ}
+use Prim.Native.Nat.{ℕ, _+_, max}
 
 -- "object count N (1 to 255)"; "Rising by object": at most one user line for each
 abbrev pub mostObjects : ℕ
@@ -24,6 +24,10 @@ mostDemarcations = 20
 abbrev pub mostPrincipals : ℕ
 mostPrincipals = 20
 
+-- the hierarchy relates demarcations, the prerequisites principals: at most so many things of either kind
+abbrev pub mostRelated : ℕ
+mostRelated = max mostDemarcations mostPrincipals
+
 -- kind 0A: "at most 32"
 abbrev pub mostMethods : ℕ
 mostMethods = 32
@@ -35,6 +39,11 @@ mostPairs = 380
 -- kind 08: pairs out of 20 with the lower first, 20 · 19 / 2
 abbrev pub mostExclusions : ℕ
 mostExclusions = 190
+
+-- a bundle's lines: the head, the lines of each kind, and the end
+abbrev pub mostLines : ℕ
+mostLines =
+    1 + mostUsers + mostEdges + mostFormulas + mostDemarcations + mostPairs + mostPrincipals + mostExclusions + mostPairs + mostMethods + 1
 
 -- "label 0 to 15"; "role r, 0 to 15"
 abbrev pub highestLabel : ℕ

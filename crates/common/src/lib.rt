@@ -61,6 +61,9 @@ pub const MOST_DEMARCATIONS: usize = 20;
 
 pub const MOST_PRINCIPALS: usize = 20;
 
+// Demarcations or principals: the things that a hierarchy or prerequisites relate.
+pub const MOST_RELATED: usize = 20;
+
 pub const MOST_METHODS: usize = 32;
 
 // Ordered pairs of two different things out of 20, for the hierarchy and the prerequisites; pairs with the lower first, for exclusions.

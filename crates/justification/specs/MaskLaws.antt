@@ -9,14 +9,14 @@ use borrow.Author.Tests.{eqb-true, eq-eqb}
 use Rattle.common.specs.Lists.{at, any, every, those, below, same}
 use Rattle.common.specs.QuantifierLaws.{any-table, table-any, every-table, table-every, some-of, all-of}
 use Rattle.common.specs.BoolLaws.{and-cases, and-both, or-cases, or-left}
-use Rattle.common.specs.Sets.{member, In}
+use Rattle.common.specs.Sets.{member, In, Within}
 use Rattle.common.specs.SetLaws.{member-in, in-member, in-lt}
 use Rattle.policy.specs.declared.Record.{Record}
 use Rattle.policy.specs.Table.{exclusion, rows, row}
 use Rattle.search.specs.declared.Masks.{Masks}
 use Rattle.search.specs.declared.Found.{Found}
 use Rattle.search.specs.declared.Found.the-variants.{Set, Nothing}
-use Rattle.search.specs.Search.{Good, Given, Met, Candidate, Least}
+use Rattle.search.specs.Search.{Consistent, Given, Met, Candidate, Least}
 use Rattle.justification.specs.Justification.{members, demarcationHas, have, listed, meets, needs, consistent, least}
 use Rattle.justification.specs.Order.{IsLeast}
 use Rattle.justification.specs.Masked.{Masked, excluded, found}
@@ -84,26 +84,29 @@ module _ (r : Record) (m a : ℕ) (s : Masks) (k : Masked r m a s) (c : ℕ) (in
       let e = all-of t (λ p. member p c) (r .«principal_count») in
       (λ h p x. e .0 h p (inner x) (in-member x), λ h. e .1 (λ p l x. h p (member-in x)))
 
-  -- ---- good members: the set is consistent, and its members are allowed
+  -- ---- the set is consistent; its members are allowed
 
-  good-passes : ((p : ℕ) → In p c → Good s c p) → (consistent r c ≡ true) × (every (λ p. member p a) (members r c) ≡ true)
+  pub consistent-is : Consistent s c ↔ (consistent r c ≡ true)
   unfolding consistent
-  good-passes g = (
-    and-both _ _
-        (no-pair .1 (apart-pairs .0 (λ p q x y e. g p x .apart q y (k .excludes p q (inner x) (inner y) .1 e))))
-        (of-members supplied .1 (λ q x. needs-in q .1 (λ p l e. in-member (g q x .whole p (k .needs q p (inner x) l .1 e))))),
-    of-members (λ p. member p a) .1 (λ p x. in-member (subst (In p) (k .permitted) (g p x .permitted))),
+  consistent-is = (
+    λ f. and-both _ _
+        (no-pair .1 (apart-pairs .0 (λ p q x y e. f p x .apart q y (k .excludes p q (inner x) (inner y) .1 e))))
+        (of-members supplied .1 (λ q x. needs-in q .1 (λ p l e. in-member (f q x .whole p (k .needs q p (inner x) l .1 e))))),
+    λ e p x.
+        let (u, v) = and-cases (every parted (rows exclusion r)) _ e in
+        record {
+          apart = λ q y z. apart-pairs .1 (no-pair .0 u) p q x y (k .excludes p q (inner x) (inner y) .0 z);
+          whole = λ q z.
+              let l = k .needed p q (inner x) z in
+              member-in (needs-in p .0 (of-members supplied .0 v p x) q l (k .needs p q (inner x) l .0 z));
+        },
   )
 
-  passes-good : consistent r c ≡ true → every (λ p. member p a) (members r c) ≡ true → (p : ℕ) → In p c → Good s c p
-  unfolding consistent
-  passes-good e f p x =
-      let (u, v) = and-cases (every parted (rows exclusion r)) _ e in
-      record {
-        permitted = subst (In p) (sym (k .permitted)) (member-in (of-members (λ q. member q a) .0 f p x));
-        apart = λ q y z. apart-pairs .1 (no-pair .0 u) p q x y (k .excludes p q (inner x) (inner y) .0 z);
-        whole = λ q z. let l = k .needed p q (inner x) z in member-in (needs-in p .0 (of-members supplied .0 v p x) q l (k .needs p q (inner x) l .0 z));
-      }
+  allowed-are : Within c (s .allowed) ↔ (every (λ p. member p a) (members r c) ≡ true)
+  allowed-are = (
+    λ f. of-members (λ p. member p a) .1 (λ p x. in-member (subst (In p) (k .permitted) (f p x))),
+    λ e p x. subst (In p) (sym (k .permitted)) (member-in (of-members (λ q. member q a) .0 e p x)),
+  )
 
   -- ---- the guard
 
@@ -138,13 +141,16 @@ module _ (r : Record) (m a : ℕ) (s : Masks) (k : Masked r m a s) (c : ℕ) (in
 pub candidate-passes : (r : Record) (m a : ℕ) (s : Masks) → Masked r m a s → (c : ℕ) → c < 2 ^ (r .«principal_count»)
     → (Candidate s c ↔ ((consistent r c && meets r m (members r c)) && every (λ p. member p a) (members r c) ≡ true))
 candidate-passes r m a s k c l = (
-  λ x. let (u, v) = good-passes r m a s k c l (x .good) in and-both _ _ (and-both _ _ u (met-meets r m a s k c l .0 (x .met))) v,
+  λ x. and-both _ _
+      (and-both _ _ (consistent-is r m a s k c l .0 (x .consistent)) (met-meets r m a s k c l .0 (x .met)))
+      (allowed-are r m a s k c l .0 (x .allowed)),
   λ e.
       let (t, v) = and-cases (consistent r c && meets r m (members r c)) _ e in
       let (u, w) = and-cases (consistent r c) _ t in
       record {
         inside = subst (λ (n : ℕ). c < 2 ^ n) (sym (k .count)) l;
-        good = passes-good r m a s k c l u v;
+        allowed = allowed-are r m a s k c l .1 v;
+        consistent = consistent-is r m a s k c l .1 u;
         met = met-meets r m a s k c l .1 w;
       },
 )

@@ -14,6 +14,7 @@ use lib.Count.{ones, onesIn, ones-step, ones-cat, ones-le}
 use Rattle.common.specs.Lists.{every, those}
 use Rattle.policy.specs.declared.Record.{Record}
 use Rattle.search.specs.Search.{Before}
+use Rattle.search.specs.SearchLaws.{before-fewer, before-size, before-antisym}
 use Rattle.justification.specs.Justification.{members, meets, consistent, sets, bySize, allSets, firstOf, candidates, least}
 use Rattle.justification.specs.Order.{IsLeast}
 
@@ -139,10 +140,10 @@ smaller a k l = elim (decLt a k) [ yes h ↦ inl h | no f ↦ inr (omega arith) 
 next : (n k : ℕ) (p : ℕ → Bool) (a b : Option ℕ) → LeastUpTo n k p a → LeastOf n k p b → LeastUpTo n (suc k) p (orElse a b)
 next n k p (some c) b f g =
     let q = f .1 in
-    (f .0, omega arith, f .2, λ y l o t. ⊎-elim (λ h. f .3 y l h t) (λ h. inl (omega arith)) (smaller (ones y) k o))
+    (f .0, omega arith, f .2, λ y l o t. ⊎-elim (λ h. f .3 y l h t) (λ h. before-fewer (omega arith)) (smaller (ones y) k o))
 next n k p none (some c) f g =
     let q = g .1 in
-    (g .0, omega arith, g .2, λ y l o t. ⊎-elim (λ h. absurd (f y l h t)) (λ h. inr (q ∙ sym h, g .3 y l h t)) (smaller (ones y) k o))
+    (g .0, omega arith, g .2, λ y l o t. ⊎-elim (λ h. absurd (f y l h t)) (λ h. before-size (q ∙ sym h) (g .3 y l h t)) (smaller (ones y) k o))
 next n k p none none f g = λ y l o t. ⊎-elim (λ h. f y l h t) (λ h. g y l h t) (smaller (ones y) k o)
 
 up-to : (n k : ℕ) (p : ℕ → Bool) → LeastUpTo n k p (firstOf p (bySize n k))
@@ -162,17 +163,11 @@ first-is-least n p = whole n p (firstOf p (bySize n (suc n))) (up-to n (suc n) p
 
 -- ---- there is only one least
 
-both-ways : (a b : ℕ) → Before a b → Before b a → a ≡ b
-both-ways a b f g = ⊎-elim
-    (λ x. ⊎-elim (λ y. absurd (omega arith)) (λ y. absurd (let e = y .0 in omega arith)) g)
-    (λ x. ⊎-elim (λ y. absurd (let e = x .0 in omega arith)) (λ y. let l = x .1 in let m = y .1 in omega arith) g)
-    f
-
 pub only-least : (n : ℕ) (p : ℕ → Bool) (a b : Option ℕ) → IsLeast n p a → IsLeast n p b → a ≡ b
 only-least n p none none f g = refl
 only-least n p none (some b) f g = absurd (f b (g .0) (g .1))
 only-least n p (some a) none f g = absurd (g a (f .0) (f .1))
-only-least n p (some a) (some b) f g = ap some (both-ways a b (f .2 b (g .0) (g .1)) (g .2 a (f .0) (f .1)))
+only-least n p (some a) (some b) f g = ap some (before-antisym (f .2 b (g .0) (g .1)) (g .2 a (f .0) (f .1)))
 
 -- tests that agree on every set of principals below n have the same least
 pub least-passes : (n : ℕ) (p q : ℕ → Bool) (o : Option ℕ) → ((y : ℕ) → y < 2 ^ n → p y ≡ q y) → IsLeast n p o → IsLeast n q o

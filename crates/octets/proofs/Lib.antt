@@ -1,3 +1,3 @@
 mod Octet
 mod Running
-mod Wrote
+mod Written

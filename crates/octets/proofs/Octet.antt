@@ -28,11 +28,13 @@ both a b h k = rw (lt-ltb (digitValue a) 16 h, lt-ltb (digitValue b) 16 k)
 -- past the end there is no octet
 pub past : (t : List ℕ) (k : ℕ) → length t ≤ 2 * k + 1 → octetAt t k ≡ 0
 unfolding octetAt
-past t k h = ap (octetOf (at t (2 * k))) (List·getD-eq-default t 0 h) ∙ no-low _ 0 (omega (arith, value-below 0 (let l : 0 < 48 = omega arith in l)))
+past t k h =
+    ap (octetOf (at t (2 * k))) (List·getD-eq-default t 0 h)
+    ∙ no-low _ 0 (omega (arith, value-below 0 (let l : 0 < 48 = omega arith in l)))
 
--- the k-th octet from a place on
-pub from-place : (s : List ℕ) (place k : ℕ) → octetAt (drop place s) k ≡ octetOf (at s (place + 2 * k)) (at s (place + 2 * k + 1))
+-- the k-th octet from an offset on
+pub from-offset : (s : List ℕ) (offset k : ℕ) → octetAt (drop offset s) k ≡ octetOf (at s (offset + 2 * k)) (at s (offset + 2 * k + 1))
 unfolding octetAt
-from-place s place k =
-    let e : place + (2 * k + 1) ≡ place + 2 * k + 1 = omega arith in
-    (λ i. octetOf (getD-drop place s (2 * k) 0 i) ((getD-drop place s (2 * k + 1) 0 ∙ ap (at s) e) i))
+from-offset s offset k =
+    let e : offset + (2 * k + 1) ≡ offset + 2 * k + 1 = omega arith in
+    (λ i. octetOf (getD-drop offset s (2 * k) 0 i) ((getD-drop offset s (2 * k + 1) 0 ∙ ap (at s) e) i))

@@ -13,9 +13,10 @@ use Rattle.common.specs.Lists.{at}
 use Rattle.common.specs.ListLaws.{drop-one, drop-two}
 use Rattle.common.specs.BoolLaws.{and-false}
 use Rattle.common.specs.Refusals.{wrongCharacters, wrongLength, wrongSum}
-use Rattle.octets.specs.Line.{digitValue, isDigit, octet, lineOf, ended, pairs, octetsOf, total, Framed, refused, octets, judged, frame}
+use Rattle.octets.specs.Line.{digitValue, isDigit, octet, lineOf, ended, pairs, octetsOf, total}
+use Rattle.octets.specs.Line.{Framed, refused, octets, judged, frame}
 use Rattle.octets.specs.LineLaws.{not-end}
-use Rattle.octets.specs.Answers.{told, atEnd}
+use Rattle.octets.specs.Answers.{lineAnswer, answerAtEnd}
 use Rattle.octets.specs.declared.Line.the-variants.{Refused, Octets}
 
 -- a line l of which the octets os have been read already; e says whether it has an end
@@ -41,12 +42,14 @@ from-none : (os : List ℕ) (e : Bool) (l : List ℕ) → pairs l ≡ false → 
 unfolding from
 from-none os e l h = rw (last-false e (ltb 0 (length os + length l)) (pairs l) h)
 
-from-pair : (os : List ℕ) (e : Bool) (a b : ℕ) (l : List ℕ) → digitValue a < 16 → digitValue b < 16 → from os e (a ∷ b ∷ l) ≡ from (os ++ octet a b ∷ []) e l
+from-pair : (os : List ℕ) (e : Bool) (a b : ℕ) (l : List ℕ) → digitValue a < 16 → digitValue b < 16
+    → from os e (a ∷ b ∷ l) ≡ from (os ++ octet a b ∷ []) e l
 unfolding from
 from-pair os e a b l la lb =
     let o = octet a b in
     let some : ltb 0 (length os + suc (suc (length l))) ≡ ltb 0 (length (os ++ o ∷ []) + length l) =
-    lt-ltb 0 (length os + suc (suc (length l))) (omega arith) ∙ sym (lt-ltb 0 (length (os ++ o ∷ []) + length l) (omega (arith, length-append os (o ∷ [])))) in
+    lt-ltb 0 (length os + suc (suc (length l))) (omega arith)
+    ∙ sym (lt-ltb 0 (length (os ++ o ∷ []) + length l) (omega (arith, length-append os (o ∷ [])))) in
     let ok : pairs (a ∷ b ∷ l) ≡ pairs l = rw (lt-ltb (digitValue a) 16 la, lt-ltb (digitValue b) 16 lb) in
     let list : os ++ (o ∷ octetsOf l) ≡ (os ++ o ∷ []) ++ octetsOf l = sym (append-assoc os (o ∷ []) (octetsOf l)) in
     λ i. cond (e && (some i && ok i)) (judged (list i)) (refused 1)
@@ -61,7 +64,8 @@ no-text : (os : List ℕ) → fromText os [] ≡ refused 1
 unfolding from
 no-text os = refl
 
-more : (os : List ℕ) (a b : ℕ) (t : List ℕ) → digitValue a < 16 → digitValue b < 16 → fromText os (a ∷ b ∷ t) ≡ fromText (os ++ octet a b ∷ []) t
+more : (os : List ℕ) (a b : ℕ) (t : List ℕ) → digitValue a < 16 → digitValue b < 16
+    → fromText os (a ∷ b ∷ t) ≡ fromText (os ++ octet a b ∷ []) t
 more os a b t la lb =
     let ha = not-end a la in
     let hb = not-end b lb in
@@ -98,20 +102,30 @@ other₂ os a b t ne h = rw (line-more a (b ∷ t) ne) (from-none os _ _ (go (eq
 -- ---- the loop of `read_line`
 
 -- at i, n octets have been read, with this first one, this sum modulo 256 and this plain sum modulo 2^64
-pub record Run (s : List ℕ) (place i n first sum plain : ℕ) : Type 0 where
+pub record Run (s : List ℕ) (offset i n first sum plain : ℕ) : Type 0 where
   pub os : List ℕ
-  pub same : frame (drop place s) ≡ fromText os (drop i s)
+  pub same : frame (drop offset s) ≡ fromText os (drop i s)
   pub count : n ≡ length os
   pub head : first ≡ at os 0
   pub low : first < 256
   pub adds : sum ≡ total os % 256
   pub whole : plain ≡ total os % 2 ^ 64
   pub most : total os ≤ 255 * length os
-  pub stands : i ≡ place + 2 * n
+  pub stands : i ≡ offset + 2 * n
 
-pub run-start : (s : List ℕ) (place : ℕ) → Run s place place 0 0 0 0
-run-start s place =
-    record { os = []; same = start (drop place s); count = refl; head = refl; low = omega arith; adds = refl; whole = refl; most = omega arith; stands = omega arith }
+pub run-start : (s : List ℕ) (offset : ℕ) → Run s offset offset 0 0 0 0
+run-start s offset =
+    record {
+      os = [];
+      same = start (drop offset s);
+      count = refl;
+      head = refl;
+      low = omega arith;
+      adds = refl;
+      whole = refl;
+      most = omega arith;
+      stands = omega arith;
+    }
 
 total-more : (os : List ℕ) (x : ℕ) → total (os ++ x ∷ []) ≡ total os + x
 total-more [] x = omega arith
@@ -121,11 +135,11 @@ head-more : (os : List ℕ) (x : ℕ) → ((length os ≡ 0) × (at (os ++ x ∷
 head-more [] x = inl (refl, refl)
 head-more (o ∷ os) x = inr (omega arith, refl)
 
-module _ {s : List ℕ} {place i n first sum plain : ℕ} (r : Run s place i n first sum plain) where
+module _ {s : List ℕ} {offset i n first sum plain : ℕ} (r : Run s offset i n first sum plain) where
   -- a pair of digits is read
   pub run-more : (first′ : ℕ) → i + 1 < length s → digitValue (at s i) < 16 → digitValue (at s (i + 1)) < 16
       → ((n ≡ 0) × (first′ ≡ octet (at s i) (at s (i + 1)))) ⊎ ((n ≢ 0) × (first′ ≡ first))
-      → Run s place (i + 2) (n + 1) first′ ((sum + octet (at s i) (at s (i + 1))) % 256) ((plain + octet (at s i) (at s (i + 1))) % 2 ^ 64)
+      → Run s offset (i + 2) (n + 1) first′ ((sum + octet (at s i) (at s (i + 1))) % 256) ((plain + octet (at s i) (at s (i + 1))) % 2 ^ 64)
   run-more first′ l la lb f =
       let o = octet (at s i) (at s (i + 1)) in
       let h = head-more (r .os) o in
@@ -145,34 +159,33 @@ module _ {s : List ℕ} {place i n first sum plain : ℕ} (r : Run s place i n f
       }
 
   -- the text is at its end
-  pub run-out : length s ≤ i → frame (drop place s) ≡ refused 1
+  pub run-out : length s ≤ i → frame (drop offset s) ≡ refused 1
   run-out l = r .same ∙ ap (fromText (r .os)) (drop-of-length-le s l) ∙ no-text (r .os)
 
   module _ (l : i < length s) where
     -- another character stands first in a pair
-    pub run-other : at s i ≢ 10 → 16 ≤ digitValue (at s i) → frame (drop place s) ≡ refused 1
+    pub run-other : at s i ≢ 10 → 16 ≤ digitValue (at s i) → frame (drop offset s) ≡ refused 1
     run-other ne h = r .same ∙ ap (fromText (r .os)) (drop-one s i l) ∙ other (r .os) _ (drop (i + 1) s) ne h
 
     -- the text ends within a pair
-    pub run-short : at s i ≢ 10 → length s ≤ i + 1 → frame (drop place s) ≡ refused 1
+    pub run-short : at s i ≢ 10 → length s ≤ i + 1 → frame (drop offset s) ≡ refused 1
     run-short ne h =
         r .same ∙ ap (fromText (r .os)) (drop-one s i l ∙ ap (λ (t : List ℕ). at s i ∷ t) (drop-of-length-le s h)) ∙ short (r .os) _ ne
 
     -- another character, or the line's end, stands second in a pair
-    pub run-other₂ : at s i ≢ 10 → i + 1 < length s → 16 ≤ digitValue (at s (i + 1)) → frame (drop place s) ≡ refused 1
+    pub run-other₂ : at s i ≢ 10 → i + 1 < length s → 16 ≤ digitValue (at s (i + 1)) → frame (drop offset s) ≡ refused 1
     run-other₂ ne k h = r .same ∙ ap (fromText (r .os)) (drop-two s i k) ∙ other₂ (r .os) _ _ (drop (i + 2) s) ne h
 
     -- the line's end
-    pub run-end : at s i ≡ 10 → atEnd n first sum (i + 1) plain ≡ told place (frame (drop place s))
-    unfolding atEnd
+    pub run-end : at s i ≡ 10 → answerAtEnd n first sum (i + 1) plain ≡ lineAnswer offset (frame (drop offset s))
+    unfolding answerAtEnd
     run-end e =
-        let f : frame (drop place s) ≡ cond (ltb 0 (length (r .os))) (judged (r .os)) (refused wrongCharacters) =
+        let f : frame (drop offset s) ≡ cond (ltb 0 (length (r .os))) (judged (r .os)) (refused wrongCharacters) =
         r .same ∙ ap (fromText (r .os)) (drop-one s i l ∙ ap (λ (b : ℕ). b ∷ drop (i + 1) s) e) ∙ at-end (r .os) (drop (i + 1) s) in
-        let m : i + 1 ≡ place + 2 * length (r .os) + 1 = omega (arith, r .count, r .stands) in
-        (λ j. cond (eqb (r .count j) 0) (Refused wrongCharacters)
-        (cond (eqb (r .head j + 3) (r .count j)) (cond (eqb (r .adds j) 0) (Octets (r .count j) (m j) plain) (Refused wrongSum)) (Refused wrongLength)))
+        let m : i + 1 ≡ offset + 2 * length (r .os) + 1 = omega (arith, r .count, r .stands) in
+        (λ j. answerAtEnd (r .count j) (r .head j) (r .adds j) (m j) plain)
         ∙ pick (r .os) plain (eqb (at (r .os) 0 + 3) (length (r .os))) (eqb (total (r .os) % 256) 0) (λ t. exact (eqb-true _ _ t))
-        ∙ ap (told place) (sym f)
+        ∙ ap (lineAnswer offset) (sym f)
       where
         -- a line that is not too long has a sum that fits
         exact : at (r .os) 0 + 3 ≡ length (r .os) → plain ≡ total (r .os)
@@ -185,9 +198,13 @@ module _ {s : List ℕ} {place i n first sum plain : ℕ} (r : Run s place i n f
         none os = ne-eqb (suc (length os)) 0 (λ z. omega arith)
 
         pick : (os : List ℕ) (p : ℕ) (y z : Bool) → (y ≡ true → p ≡ total os)
-            → cond (eqb (length os) 0) (Refused wrongCharacters) (cond y (cond z (Octets (length os) (place + 2 * length os + 1) p) (Refused wrongSum)) (Refused wrongLength))
-            ≡ told place (cond (ltb 0 (length os)) (cond y (cond z (octets os) (refused wrongSum)) (refused wrongLength)) (refused wrongCharacters))
+            → cond (eqb (length os) 0)
+            (Refused wrongCharacters)
+            (cond y (cond z (Octets (length os) (offset + 2 * length os + 1) p) (Refused wrongSum)) (Refused wrongLength))
+            ≡ lineAnswer offset (cond (ltb 0 (length os))
+            (cond y (cond z (octets os) (refused wrongSum)) (refused wrongLength))
+            (refused wrongCharacters))
         pick [] p y z h = refl
-        pick (o ∷ os) p true true h = rw (some os, none os) (ap (Octets (length (o ∷ os)) (place + 2 * length (o ∷ os) + 1)) (h refl))
+        pick (o ∷ os) p true true h = rw (some os, none os) (ap (Octets (length (o ∷ os)) (offset + 2 * length (o ∷ os) + 1)) (h refl))
         pick (o ∷ os) p true false h = rw (some os, none os)
         pick (o ∷ os) p false z h = rw (some os, none os)

@@ -10,20 +10,22 @@ use Rattle.octets.specs.Line.{Framed, refused, octets, total, isDigit, o
 use Rattle.octets.specs.declared.Line.{Line}
 use Rattle.octets.specs.declared.Line.the-variants.{Refused, Octets}
 
--- of a line at a place: the number that refuses it; or how many octets it has, the place of the next line, and the octets' plain sum
-abbrev pub told : ℕ → Framed → Line
-told place (refused k) = Refused k
-told place (octets os) = Octets (length os) (place + 2 * length os + 1) (total os)
+-- of the line at an offset: the number that refuses it; or how many octets it has, the offset of the next line, and the octets' plain sum
+abbrev pub lineAnswer : ℕ → Framed → Line
+lineAnswer offset (refused k) = Refused k
+lineAnswer offset (octets os) = Octets (length os) (offset + 2 * length os + 1) (total os)
 
 -- document 01's number of that answer: 0 for an accepted line
 abbrev pub numberOf : Line → ℕ
 numberOf (Refused k) = k
 numberOf (Octets count next sum) = 0
 
--- the same at the line's end, from the count of octets, the first octet, the sum of all modulo 256, the next place and the plain sum
-unfoldable pub atEnd : ℕ → ℕ → ℕ → ℕ → ℕ → Line
-atEnd count first sum next plain =
-    cond (eqb count 0) (Refused wrongCharacters) (cond (eqb (first + 3) count) (cond (eqb sum 0) (Octets count next plain) (Refused wrongSum)) (Refused wrongLength))
+-- the same at the line's end, from the count of octets, the first octet, the sum of all modulo 256, the next offset, the plain sum
+unfoldable pub answerAtEnd : ℕ → ℕ → ℕ → ℕ → ℕ → Line
+answerAtEnd count first sum next plain =
+    cond (eqb count 0)
+    (Refused wrongCharacters)
+    (cond (eqb (first + 3) count) (cond (eqb sum 0) (Octets count next plain) (Refused wrongSum)) (Refused wrongLength))
 
 -- the octet of two bytes; 0 where one of them is no digit
 unfoldable pub octetOf : ℕ → ℕ → ℕ
@@ -33,19 +35,19 @@ octetOf a b = cond (isDigit a && isDigit b) (octet a b) 0
 unfoldable pub octetAt : List ℕ → ℕ → ℕ
 octetAt t k = octetOf (at t (2 * k)) (at t (2 * k + 1))
 
--- the two digits of an octet put at a place of a buffer
+-- the two digits of an octet put at an offset of a buffer
 abbrev pub placed : List ℕ → ℕ → ℕ → List ℕ
-placed buffer place o = set (set buffer place (digit (o / 16))) (place + 1) (digit (o % 16))
+placed buffer offset o = set (set buffer offset (digit (o / 16))) (offset + 1) (digit (o % 16))
 
--- a body fits where one octet tells its length and the buffer has room for its line
-abbrev pub fits : ℕ → List ℕ → List ℕ → Bool
-fits kind body buffer = leb (length body) 255 && leb (length (lineBytes (framed kind body))) (length buffer)
+-- one octet can say the body's length, and the buffer has room for its line
+abbrev pub hasRoom : ℕ → List ℕ → List ℕ → Bool
+hasRoom kind body buffer = leb (length body) 255 && leb (length (lineBytes (framed kind body))) (length buffer)
 
--- how many bytes are written: the line's; 0 where it does not fit
+-- how many bytes are written: the line's; 0 where there is no room
 unfoldable pub writtenLength : ℕ → List ℕ → List ℕ → ℕ
-writtenLength kind body buffer = cond (fits kind body buffer) (length (lineBytes (framed kind body))) 0
+writtenLength kind body buffer = cond (hasRoom kind body buffer) (length (lineBytes (framed kind body))) 0
 
--- what the buffer then holds: the line, and the bytes past it as they were; untouched where the line does not fit
+-- what the buffer then holds: the line, and the bytes past it as they were; untouched where there is no room
 unfoldable pub writtenBuffer : ℕ → List ℕ → List ℕ → List ℕ
 writtenBuffer kind body buffer =
-    cond (fits kind body buffer) (lineBytes (framed kind body) ++ drop (length (lineBytes (framed kind body))) buffer) buffer
+    cond (hasRoom kind body buffer) (lineBytes (framed kind body) ++ drop (length (lineBytes (framed kind body))) buffer) buffer

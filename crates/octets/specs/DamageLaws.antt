@@ -1,4 +1,5 @@
--- THE THEOREM on one altered byte: a text all of whose lines are well framed, with exactly one byte altered, has a line that is refused with 1, 2 or 3.
+-- THE THEOREM on one altered byte: a text all of whose lines are well framed, with exactly one byte altered,
+-- has a line that is refused with 1, 2 or 3.
 use Prim.Native.Nat.{ℕ, zero, suc, _+_, _-_, _%_, _≤_, _<_}
 use mathlib.Core.Path.{_≡_, refl, sym, _∙_, ap, subst}
 use mathlib.Core.Logic.{_⊎_, inl, inr, ⊎-elim, _≢_}
@@ -25,7 +26,10 @@ differ m n h (no k) = inr (omega arith)
 
 same-digit : (c d : ℕ) → digitValue c < 16 → digitValue d < 16 → digitValue c ≡ digitValue d → c ≡ d
 same-digit c d p q e =
-    ⊎-elim (λ x. ⊎-elim (λ y. omega arith) (λ y. omega arith) (digit-is d q)) (λ x. ⊎-elim (λ y. omega arith) (λ y. omega arith) (digit-is d q)) (digit-is c p)
+    ⊎-elim
+    (λ x. ⊎-elim (λ y. omega arith) (λ y. omega arith) (digit-is d q))
+    (λ x. ⊎-elim (λ y. omega arith) (λ y. omega arith) (digit-is d q))
+    (digit-is c p)
 
 other-digit : (c d : ℕ) → c ≢ d → digitValue c < 16 → digitValue d < 16 → (digitValue c < digitValue d) ⊎ (digitValue d < digitValue c)
 other-digit c d h p q = differ (digitValue c) (digitValue d) (λ e. h (same-digit c d p q e)) (decLt _ _)
@@ -48,13 +52,13 @@ apart (next (next {t = l} {t′ = l′} o)) p q = apart-more _ (total (octetsOf 
 
 -- ---- well framed characters
 
-record Good (l : List ℕ) : Type 0 where
+record LineFramed (l : List ℕ) : Type 0 where
   are : Pairs l
   long : at (octetsOf l) 0 + 3 ≡ length (octetsOf l)
   adds : total (octetsOf l) % 256 ≡ 0
 
-good : {t os : List ℕ} → Accepted t os → Good (lineOf t)
-good {t} {os} a =
+line-framed : {t os : List ℕ} → Accepted t os → LineFramed (lineOf t)
+line-framed {t} {os} a =
     record {
       are = a .are;
       long = subst (λ (q : List ℕ). at q 0 + 3 ≡ length q) (sym (a .read)) (a .long);
@@ -62,7 +66,7 @@ good {t} {os} a =
     }
 
 -- the length octet stands first, so no line is the start of another
-no-prefix : (u : List ℕ) (b : ℕ) (v : List ℕ) → Good u → Good (u ++ b ∷ v) → ⊥
+no-prefix : (u : List ℕ) (b : ℕ) (v : List ℕ) → LineFramed u → LineFramed (u ++ b ∷ v) → ⊥
 no-prefix [] b v g h = let e = g .long in omega arith
 no-prefix (a ∷ []) b v g h = g .are
 no-prefix (a ∷ c ∷ u) b v g h =
@@ -94,18 +98,23 @@ change (this {b} {b′} {t = s} h) = go (eqb b 0x0A) (eqb b′ 0x0A) refl refl
     go false false p q e = inside (this h)
 change (next {b} {t = s} {t′ = s′} o) = go (eqb b 0x0A) (change o)
   where
-    go : (x : Bool) → (ended s ≡ true → Change (lineOf s) (lineOf s′) (restOf s) (restOf s′) (ended s′)) → cond x true (ended s) ≡ true
-        → Change (cond x [] (b ∷ lineOf s)) (cond x [] (b ∷ lineOf s′)) (cond x s (restOf s)) (cond x s′ (restOf s′)) (cond x true (ended s′))
+    go : (x : Bool) → (ended s ≡ true → Change (lineOf s) (lineOf s′) (restOf s) (restOf s′) (ended s′))
+        → cond x true (ended s) ≡ true
+        → Change (cond x [] (b ∷ lineOf s)) (cond x [] (b ∷ lineOf s′)) (cond x s (restOf s)) (cond x s′ (restOf s′))
+        (cond x true (ended s′))
     go true ih e = after o
     go false ih e = longer b (ih e)
 
 -- the altered line is not well framed, or what follows it is altered
-verdict : {l l′ r r′ : List ℕ} {e : Bool} → Change l l′ r r′ e → Good l → Pairs (lineOf r) → (Good l′ → ⊥) ⊎ ((e ≡ true) × OneAltered r r′)
-verdict (inside o) g p = inl (λ h. ⊎-elim (λ a. omega (arith, g .adds, h .adds)) (λ a. omega (arith, g .adds, h .adds)) (apart o (g .are) (h .are)))
-verdict (cut u b v) g p = inl (λ h. no-prefix u b v h g)
-verdict (joined b {l} {r}) g p =
-    inl (λ h. omega (arith, pairs-even l (g .are), pairs-even (lineOf r) p, pairs-even (l ++ b ∷ lineOf r) (h .are), length-append l (b ∷ lineOf r)))
-verdict (after o) g p = inr (refl, o)
+detected : {l l′ r r′ : List ℕ} {e : Bool} → Change l l′ r r′ e → LineFramed l → Pairs (lineOf r)
+    → (LineFramed l′ → ⊥) ⊎ ((e ≡ true) × OneAltered r r′)
+detected (inside o) g p =
+    inl (λ h. ⊎-elim (λ a. omega (arith, g .adds, h .adds)) (λ a. omega (arith, g .adds, h .adds)) (apart o (g .are) (h .are)))
+detected (cut u b v) g p = inl (λ h. no-prefix u b v h g)
+detected (joined b {l} {r}) g p =
+    let n = length-append l (b ∷ lineOf r) in
+    inl (λ h. omega (arith, pairs-even l (g .are), pairs-even (lineOf r) p, pairs-even (l ++ b ∷ lineOf r) (h .are), n))
+detected (after o) g p = inr (refl, o)
 
 -- ---- all lines of a text
 
@@ -130,13 +139,13 @@ pairs-first (line a w) = a .are
 caught : {t t′ : List ℕ} → Whole t → OneAltered t t′ → Refused t′
 caught {t′ = t′} (line a w) o =
     ⊎-elim
-    (λ h. bad h (frame-judged t′))
+    (λ h. refusal h (frame-judged t′))
     (λ p. later (filled o) (caught w (p .1)))
-    (verdict (change o (a .end)) (good a) (pairs-first w))
+    (detected (change o (a .end)) (line-framed a) (pairs-first w))
   where
-    bad : (Good (lineOf t′) → ⊥) → Judged t′ (frame t′) → Refused t′
-    bad h (accepts f b) = absurd (h (good b))
-    bad h (refuses f l k) = here (filled o) l k f
+    refusal : (LineFramed (lineOf t′) → ⊥) → Judged t′ (frame t′) → Refused t′
+    refusal h (accepts f b) = absurd (h (line-framed b))
+    refusal h (refuses f l k) = here (filled o) l k f
 
 -- ---- the same, of `lines`
 
@@ -157,7 +166,8 @@ rest-less (b ∷ t) l = go (eqb b 0x0A)
     go false = let h = rest-le t in omega arith
 
 -- the first line is whole, if all shorter texts are
-whole-first : (n : ℕ) (t : List ℕ) → ((r : List ℕ) → length r ≤ n → wellFramed r ≡ true → Whole r) → length t ≤ suc n → wellFramed t ≡ true → Whole t
+whole-first : (n : ℕ) (t : List ℕ) → ((r : List ℕ) → length r ≤ n → wellFramed r ≡ true → Whole r)
+    → length t ≤ suc n → wellFramed t ≡ true → Whole t
 whole-first n [] ih l e = none
 whole-first n (b ∷ t) ih l e =
     let s : 0 < length (b ∷ t) = omega arith in

@@ -59,9 +59,13 @@ pub data Framed : Type 0 where
   refused : ℕ → Framed
   octets : List ℕ → Framed
 
--- 2: under 3 octets, or the length octet is not the count of body octets. 3: the octets, the check octet included, do not add to zero modulo 256
+-- "The octets of a line, the check octet included, add to zero modulo 256": of every line, the end line too
+abbrev pub addsToZero : List ℕ → Bool
+addsToZero os = eqb (total os % 256) 0
+
+-- 2: under 3 octets, or the length octet is not the count of body octets. 3: the octets do not add to zero
 abbrev pub judged : List ℕ → Framed
-judged os = cond (eqb (at os 0 + 3) (length os)) (cond (eqb (total os % 256) 0) (octets os) (refused wrongSum)) (refused wrongLength)
+judged os = cond (eqb (at os 0 + 3) (length os)) (cond (addsToZero os) (octets os) (refused wrongSum)) (refused wrongLength)
 
 -- the first line of a text. 1: it is empty, has an odd number of characters, another character, or no end
 unfoldable pub frame : List ℕ → Framed

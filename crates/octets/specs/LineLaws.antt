@@ -11,7 +11,8 @@ use lib.Dec.{ltb, leb, eqb}
 use borrow.Author.Tests.{ltb-true, leb-true, eqb-true, le-leb, lt-leb, lt-ltb, eq-eqb}
 use Rattle.common.specs.Lists.{at}
 use Rattle.common.specs.BoolLaws.{and-cases}
-use Rattle.octets.specs.Line.{digitValue, isDigit, pairs, octetsOf, total, lineOf, restOf, ended, Framed, refused, octets, frame, starts, laterLines, lines}
+use Rattle.octets.specs.Line.{digitValue, isDigit, pairs, octetsOf, total, lineOf, restOf, ended}
+use Rattle.octets.specs.Line.{Framed, refused, octets, addsToZero, frame, starts, laterLines, lines}
 use Rattle.octets.specs.Answers.{octetOf, octetAt}
 
 -- ---- digits
@@ -36,15 +37,21 @@ value-between c h k = simp (le-leb 48 c (let l : 48 ≤ c = omega arith in l), l
 pub value-above : (c : ℕ) → 70 < c → digitValue c ≡ 16
 unfolding digitValue
 value-above c h =
-    simp (le-leb 48 c (let l : 48 ≤ c = omega arith in l), lt-leb c 57 (let l : 57 < c = omega arith in l), le-leb 65 c (let l : 65 ≤ c = omega arith in l), lt-leb c 70 h)
+    let a : 48 ≤ c = omega arith in
+    let b : 57 < c = omega arith in
+    let d : 65 ≤ c = omega arith in
+    simp (le-leb 48 c a, lt-leb c 57 b, le-leb 65 c d, lt-leb c 70 h)
 
--- a digit is a number or a letter
-pub digit-is : (c : ℕ) → digitValue c < 16 → ((48 ≤ c) × (c ≤ 57) × (digitValue c ≡ c - 48)) ⊎ ((65 ≤ c) × (c ≤ 70) × (digitValue c ≡ c - 55))
+-- a digit is a number or a letter, with this value
+abbrev pub DigitIs : ℕ → ℕ → Type 0
+DigitIs c v = ((48 ≤ c) × (c ≤ 57) × (v ≡ c - 48)) ⊎ ((65 ≤ c) × (c ≤ 70) × (v ≡ c - 55))
+
+pub digit-is : (c : ℕ) → digitValue c < 16 → DigitIs c (digitValue c)
 unfolding digitValue
 digit-is c = go (leb 48 c && leb c 57) (leb 65 c && leb c 70) refl refl
   where
     go : (x y : Bool) → leb 48 c && leb c 57 ≡ x → leb 65 c && leb c 70 ≡ y → cond x (c - 48) (cond y (c - 55) 16) < 16
-        → ((48 ≤ c) × (c ≤ 57) × (cond x (c - 48) (cond y (c - 55) 16) ≡ c - 48)) ⊎ ((65 ≤ c) × (c ≤ 70) × (cond x (c - 48) (cond y (c - 55) 16) ≡ c - 55))
+        → DigitIs c (cond x (c - 48) (cond y (c - 55) 16))
     go true y e f l = let p = and-cases _ _ e in inl (leb-true _ _ (p .0), leb-true _ _ (p .1), refl)
     go false true e f l = let p = and-cases _ _ f in inr (leb-true _ _ (p .0), leb-true _ _ (p .1), refl)
     go false false e f l = absurd (omega arith)
@@ -97,7 +104,7 @@ abbrev test₂ : List ℕ → Bool
 test₂ t = eqb (at (octetsOf (lineOf t)) 0 + 3) (length (octetsOf (lineOf t)))
 
 abbrev test₃ : List ℕ → Bool
-test₃ t = eqb (total (octetsOf (lineOf t)) % 256) 0
+test₃ t = addsToZero (octetsOf (lineOf t))
 
 passed : (t : List ℕ) → test₁ t ≡ true → test₂ t ≡ true → test₃ t ≡ true → Accepted t (octetsOf (lineOf t))
 passed t x y z =
@@ -143,7 +150,8 @@ some-line (a ∷ l) e = omega arith
 pub accept : {t os : List ℕ} → Accepted t os → frame t ≡ octets os
 unfolding frame
 accept {t} {os} a =
-    let long : at (octetsOf (lineOf t)) 0 + 3 ≡ length (octetsOf (lineOf t)) = subst (λ (q : List ℕ). at q 0 + 3 ≡ length q) (sym (a .read)) (a .long) in
+    let long : at (octetsOf (lineOf t)) 0 + 3 ≡ length (octetsOf (lineOf t)) =
+    subst (λ (q : List ℕ). at q 0 + 3 ≡ length q) (sym (a .read)) (a .long) in
     let adds : total (octetsOf (lineOf t)) % 256 ≡ 0 = subst (λ (q : List ℕ). total q % 256 ≡ 0) (sym (a .read)) (a .adds) in
     rw (
       a .end,
@@ -156,12 +164,16 @@ accept {t} {os} a =
 
 -- ---- where things stand
 
-rest-at : (t : List ℕ) → ended t ≡ true → (length (lineOf t) + 1 ≤ length t) × (drop (length (lineOf t) + 1) t ≡ restOf t)
+-- past the line l of the text t, and its end, stands r
+abbrev Past : List ℕ → List ℕ → List ℕ → Type 0
+Past t l r = (length l + 1 ≤ length t) × (drop (length l + 1) t ≡ r)
+
+rest-at : (t : List ℕ) → ended t ≡ true → Past t (lineOf t) (restOf t)
 rest-at [] e = absurd (false≢true e)
 rest-at (b ∷ t) e₀ = go (eqb b 0x0A) (rest-at t) e₀
   where
-    go : (x : Bool) → (ended t ≡ true → (length (lineOf t) + 1 ≤ length t) × (drop (length (lineOf t) + 1) t ≡ restOf t)) → cond x true (ended t) ≡ true
-        → (length (cond x [] (b ∷ lineOf t)) + 1 ≤ length (b ∷ t)) × (drop (length (cond x [] (b ∷ lineOf t)) + 1) (b ∷ t) ≡ cond x t (restOf t))
+    go : (x : Bool) → (ended t ≡ true → Past t (lineOf t) (restOf t)) → cond x true (ended t) ≡ true
+        → Past (b ∷ t) (cond x [] (b ∷ lineOf t)) (cond x t (restOf t))
     go true ih e = (omega arith, refl)
     go false ih e = let h = ih e in (omega arith, rw suc-add (h .1))
 

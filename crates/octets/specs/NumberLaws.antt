@@ -8,7 +8,7 @@ use lib.ListN.{length, take, length-append}
 use lib.Seq.{length-take-le}
 use Rattle.common.specs.Lists.{at}
 use Rattle.octets.specs.Number.{numberFrom, number, inOctets}
-use Rattle.octets.specs.WritingLaws.{Octets, octets-append, octets-take, last-of, octet-at-place}
+use Rattle.octets.specs.WritingLaws.{Octets, octets-append, octets-take, last-of, octet-at-index}
 
 -- one octet more, at the low end
 pub number-last : (v : ℕ) (os : List ℕ) (o : ℕ) → numberFrom v (os ++ (o ∷ [])) ≡ numberFrom v os * 256 + o
@@ -36,7 +36,7 @@ in-octets-number zero (o ∷ os) e p = absurd (omega arith)
 in-octets-number (suc n) os e p =
     let w = last-of n os (omega arith) in
     let v : number os ≡ number (take n os) * 256 + at os n = ap number w ∙ number-last 0 (take n os) (at os n) in
-    let l = octet-at-place os n p in
+    let l = octet-at-index os n p in
     let high : number os / 256 ≡ number (take n os) = omega arith in
     let low : number os % 256 ≡ at os n = omega arith in
     (λ i. inOctets n (high i) ++ (low i ∷ []))
@@ -50,6 +50,6 @@ number-below zero (o ∷ os) e p = absurd (omega arith)
 number-below (suc n) os e p =
     let h = number-below n (take n os) (length-take-le n os (omega arith)) (octets-take n os p) in
     let v : number os ≡ number (take n os) * 256 + at os n = ap number (last-of n os (omega arith)) ∙ number-last 0 (take n os) (at os n) in
-    let l = octet-at-place os n p in
+    let l = octet-at-index os n p in
     let b : number os < 256 ^ n * 256 = omega arith in
     subst (λ (m : ℕ). number os < m) (sym (pow-suc 256 n)) b

@@ -11,7 +11,8 @@ use lib.Seq.{length-take-le}
 use lib.Dec.{eqb}
 use borrow.Author.Tests.{lt-ltb, le-ltb, ne-eqb, eqb-true}
 use Rattle.common.specs.Lists.{at}
-use Rattle.octets.specs.Line.{digitValue, octet, octetsOf, total, lineOf, restOf, ended, octets, frame, kindOctet, bodyOf, digit, digits, check, framed, lineBytes}
+use Rattle.octets.specs.Line.{digitValue, octet, octetsOf, total, lineOf, restOf, ended, octets, frame, kindOctet, bodyOf}
+use Rattle.octets.specs.Line.{digit, digits, check, framed, lineBytes}
 use Rattle.octets.specs.LineLaws.{value-number, value-letter, digit-is, not-end, Pairs, accepted, accept}
 
 -- ---- lengths and sums
@@ -48,9 +49,10 @@ value-digit d l =
 
 pub digit-value : (c : ℕ) → digitValue c < 16 → digit (digitValue c) ≡ c
 digit-value c l =
+    let s = split (digitValue c) (decLt (digitValue c) 10) in
     ⊎-elim
-    (λ p. ⊎-elim (λ q. q .1 ∙ (let e : 48 + digitValue c ≡ c = omega arith in e)) (λ q. absurd (omega arith)) (split (digitValue c) (decLt (digitValue c) 10)))
-    (λ p. ⊎-elim (λ q. absurd (omega arith)) (λ q. q .1 ∙ (let e : 55 + digitValue c ≡ c = omega arith in e)) (split (digitValue c) (decLt (digitValue c) 10)))
+    (λ p. ⊎-elim (λ q. q .1 ∙ (let e : 48 + digitValue c ≡ c = omega arith in e)) (λ q. absurd (omega arith)) s)
+    (λ p. ⊎-elim (λ q. absurd (omega arith)) (λ q. q .1 ∙ (let e : 55 + digitValue c ≡ c = omega arith in e)) s)
     (digit-is c l)
 
 -- ---- a written line reads back
@@ -125,7 +127,8 @@ module _ (kind : ℕ) (body : List ℕ) where
   framed-long = sym (length-framed kind body)
 
   -- THE LAW: a written line, whatever follows it, reads back as the octets written
-  pub reads-back : (t : List ℕ) → kind < 256 → length body ≤ 255 → Octets body → frame (digits (framed kind body) ++ (0x0A ∷ t)) ≡ octets (framed kind body)
+  pub reads-back : (t : List ℕ) → kind < 256 → length body ≤ 255 → Octets body
+      → frame (digits (framed kind body) ++ (0x0A ∷ t)) ≡ octets (framed kind body)
   reads-back t k l p =
       let os = framed kind body in
       let q = framed-octets k l p in
@@ -181,10 +184,10 @@ last-of zero (x ∷ y ∷ l) e = absurd (omega arith)
 last-of (suc n) [] e = absurd (omega arith)
 last-of (suc n) (x ∷ l) e = ap (λ (m : List ℕ). x ∷ m) (last-of n l (omega arith))
 
-pub octet-at-place : (l : List ℕ) (n : ℕ) → Octets l → at l n < 256
-octet-at-place [] n p = omega arith
-octet-at-place (o ∷ l) zero p = p .0
-octet-at-place (o ∷ l) (suc n) p = octet-at-place l n (p .1)
+pub octet-at-index : (l : List ℕ) (n : ℕ) → Octets l → at l n < 256
+octet-at-index [] n p = omega arith
+octet-at-index (o ∷ l) zero p = p .0
+octet-at-index (o ∷ l) (suc n) p = octet-at-index l n (p .1)
 
 -- the octets of an accepted line are those framed from its kind and body
 pub framed-again : (os : List ℕ) → Octets os → at os 0 + 3 ≡ length os → total os % 256 ≡ 0 → os ≡ framed (kindOctet os) (bodyOf os)
@@ -197,9 +200,11 @@ framed-again (n ∷ kind ∷ l) p e s =
     let body : bodyOf (n ∷ kind ∷ l) ≡ take n l = ap (λ (k : ℕ). take k l) m in
     let long : length (bodyOf (n ∷ kind ∷ l)) ≡ n = ap length body ∙ length-take-le n l (omega arith) in
     let whole : l ≡ bodyOf (n ∷ kind ∷ l) ++ (at l n ∷ []) = last-of n l size ∙ ap (λ (b : List ℕ). b ++ (at l n ∷ [])) (sym body) in
-    let sum : total l ≡ total (bodyOf (n ∷ kind ∷ l)) + (at l n + 0) = ap total whole ∙ total-append (bodyOf (n ∷ kind ∷ l)) (at l n ∷ []) in
+    let sum : total l ≡ total (bodyOf (n ∷ kind ∷ l)) + (at l n + 0) =
+    ap total whole ∙ total-append (bodyOf (n ∷ kind ∷ l)) (at l n ∷ []) in
+    let zero-sum : (n + (kind + total l)) % 256 ≡ 0 = s in
     let last : at l n ≡ check (total (length (bodyOf (n ∷ kind ∷ l)) ∷ kind ∷ bodyOf (n ∷ kind ∷ l))) =
-    checks n kind (total (bodyOf (n ∷ kind ∷ l))) (at l n) (octet-at-place l n (p .1 .1)) (let z : (n + (kind + total l)) % 256 ≡ 0 = s in omega arith)
+    checks n kind (total (bodyOf (n ∷ kind ∷ l))) (at l n) (octet-at-index l n (p .1 .1)) (omega arith)
     ∙ ap (λ (k : ℕ). check (k + (kind + total (bodyOf (n ∷ kind ∷ l))))) (sym long) in
     (λ i. sym long i ∷ kind ∷ (whole ∙ ap (λ (o : ℕ). bodyOf (n ∷ kind ∷ l) ++ (o ∷ [])) last) i)
   where

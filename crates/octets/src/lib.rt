@@ -5,16 +5,16 @@ ghost use Prim.Native.Nat.{_+_, _<_};
 ghost use lib.ListN.{length, drop};
 ghost use Rattle.octets.specs.Line.{digitValue, frame};
 ghost use Rattle.octets.specs.Line as line;
-ghost use Rattle.octets.specs.Answers.{told, atEnd, octetOf, octetAt, placed, writtenLength, writtenBuffer};
+ghost use Rattle.octets.specs.Answers.{lineAnswer, answerAtEnd, octetOf, octetAt, placed, writtenLength, writtenBuffer};
 use common::WRONG_CHARACTERS;
 use common::WRONG_LENGTH;
 use common::WRONG_SUM;
 
-// What the line at a place is.
+// What the line at an offset of a text is.
 pub enum Line {
     // Refused with document 01's number 1, 2 or 3.
     Refused(u8),
-    // So many octets, the place where the next line starts, and the plain sum of the octets.
+    // So many octets, the offset at which the next line starts, and the plain sum of the octets.
     Octets {
         count: usize,
         next: usize,
@@ -42,8 +42,8 @@ pub fn digit_value(c: u8) -> u8
 }
 
 // What a line is at its end, by its count of octets, the first octet, and the sum of all, modulo 256 and plain.
-fn at_end(count: usize, first: u8, sum: u8, next: usize, total: usize) -> Line
-    ensures { λ r. ⌜ r ≡ atEnd count first sum next total ⌝ }
+fn answer_at_end(count: usize, first: u8, sum: u8, next: usize, total: usize) -> Line
+    ensures { λ r. ⌜ r ≡ answerAtEnd count first sum next total ⌝ }
 {
     if count == 0 {
         return Line::Refused(WRONG_CHARACTERS);
@@ -61,11 +61,11 @@ fn at_end(count: usize, first: u8, sum: u8, next: usize, total: usize) -> Line
     }
 }
 
-// Reads the line that starts at a place of the text. The octets' running sum wraps, and is compared with zero at the line's end.
-pub fn read_line(text: &[u8], place: usize) -> Line
-    ensures { λ r. ⌜ r ≡ told place (frame (drop place (now (text .entry)))) ⌝ }
+// Reads the line that starts at an offset of the text. The octets' running sum wraps, and is compared with zero at the line's end.
+pub fn read_line(text: &[u8], offset: usize) -> Line
+    ensures { λ r. ⌜ r ≡ lineAnswer offset (frame (drop offset (now (text .entry)))) ⌝ }
 {
-    let mut i = place;
+    let mut i = offset;
     let mut n: usize = 0;
     let mut first: u8 = 0;
     let mut sum: u8 = 0;
@@ -73,7 +73,7 @@ pub fn read_line(text: &[u8], place: usize) -> Line
     while i < text.len() {
         let a = text[i];
         if a == 0x0A {
-            return at_end(n, first, sum, i + 1, total);
+            return answer_at_end(n, first, sum, i + 1, total);
         }
         let x = digit_value(a);
         if 16 <= x {
@@ -114,18 +114,18 @@ fn octet_of(high: u8, low: u8) -> u8
     x * 16 + y
 }
 
-// The k-th octet of the line that starts at a place, which `read_line` accepted; 0 where no two digits stand there.
-pub fn octet_at(text: &[u8], place: usize, k: usize) -> u8
-    ensures { λ r. ⌜ r ≡ octetAt (drop place (now (text .entry))) k ⌝ }
+// The k-th octet of the line that starts at an offset, which `read_line` accepted; 0 where no two digits stand there.
+pub fn octet_at(text: &[u8], offset: usize, k: usize) -> u8
+    ensures { λ r. ⌜ r ≡ octetAt (drop offset (now (text .entry))) k ⌝ }
 {
-    if text.len() <= place {
+    if text.len() <= offset {
         return 0;
     }
-    let rest = text.len() - place;
+    let rest = text.len() - offset;
     if rest / 2 <= k {
         return 0;
     }
-    let high = place + 2 * k;
+    let high = offset + 2 * k;
     let low = high + 1;
     octet_of(text[high], text[low])
 }
@@ -141,20 +141,21 @@ fn digit(d: u8) -> u8
     55 + d
 }
 
-// Puts the two digits of an octet at a place of the buffer.
-fn put_octet(buffer: &mut [u8], place: usize, octet: u8)
-    requires { ⌜ place + 1 < length (now buffer) ⌝ }
-    ensures { λ _. ⌜ now (buffer .exit) ≡ placed (now (buffer .entry)) place octet ⌝ }
+// Puts the two digits of an octet at an offset of the buffer.
+fn put_octet(buffer: &mut [u8], offset: usize, octet: u8)
+    requires { ⌜ offset + 1 < length (now buffer) ⌝ }
+    ensures { λ _. ⌜ now (buffer .exit) ≡ placed (now (buffer .entry)) offset octet ⌝ }
 {
-    let next = place + 1;
-    buffer[place] = digit(octet / 16);
+    let next = offset + 1;
+    buffer[offset] = digit(octet / 16);
     buffer[next] = digit(octet % 16);
 }
 
 // Writes one line at the start of the buffer, the unwritten rest of a longer one: length, kind, body, check octet, 0A.
 // Returns how many bytes that is. A body of more than 255 octets or too short a buffer gives 0, the buffer untouched.
 pub fn write_line(buffer: &mut [u8], kind: u8, body: &[u8]) -> usize
-    ensures { λ r. ⌜ (r ≡ writtenLength kind (now (body .entry)) (now (buffer .entry))) × (now (buffer .exit) ≡ writtenBuffer kind (now (body .entry)) (now (buffer .entry))) ⌝ }
+    ensures length { λ r. ⌜ r ≡ writtenLength kind (now (body .entry)) (now (buffer .entry)) ⌝ }
+    ensures buffer { λ _. ⌜ now (buffer .exit) ≡ writtenBuffer kind (now (body .entry)) (now (buffer .entry)) ⌝ }
 {
     let n = body.len();
     if 255 < n {

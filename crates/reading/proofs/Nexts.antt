@@ -12,7 +12,7 @@ use Rattle.common.specs.Refusals.{wrongKind}
 use Rattle.octets.specs.Line.{refused, octets, kindOctet, frame}
 use Rattle.octets.specs.LineLaws.{accepted, octet-at}
 use Rattle.octets.specs.Answers.{octetAt}
-use Rattle.octets.specs.AnswerLaws.{ToldOctets}
+use Rattle.octets.specs.AnswerLaws.{AnswerOctets}
 use Rattle.reading.specs.declared.Next.the-variants.{Other, Refused, Body}
 use Rattle.reading.specs.Stages.{nextIs, nextOf}
 
@@ -29,7 +29,7 @@ module _ (text : List ℕ) (place kind size : ℕ) where
     pub next-refused : {k : ℕ} → frame (drop place text) ≡ refused k → Refused k ≡ nextOf text place kind size
     next-refused e = sym (here ∙ ap (nextIs place kind size) e)
 
-    module _ {count next sum : ℕ} (t : ToldOctets place count next sum (frame (drop place text))) where
+    module _ {count next sum : ℕ} (t : AnswerOctets place count next sum (frame (drop place text))) where
       found : nextOf text place kind size ≡ nextIs place kind size (octets (t .os))
       found = here ∙ ap (nextIs place kind size) (t .framed)
 

@@ -9,13 +9,16 @@ use lib.Arith.{bin-ind}
 use lib.Pow.{pow-pos, shr-shr}
 use lib.Bits.{bitAnd, bitOr, and-comm, and-step}
 use lib.Count.{ones, ones-step, ones-cat, ones-le}
+use Rattle.common.specs.Limits.{mostPrincipals}
 use Rattle.common.specs.Lists.{at}
 use Rattle.common.specs.Sets.{In, Apart, Within}
-use Rattle.common.specs.SetLaws.{le-or-lt, in-or-out, none-in-zero, some-in, and-in-l, within-and, or-in, in-lt, in-ge, in-pow, pow-in, in-sum-l, in-sum-r, sum-in}
+use Rattle.common.specs.SetLaws.{le-or-lt, in-or-out, none-in-zero, some-in, and-in-l, within-and, or-in}
+use Rattle.common.specs.SetLaws.{in-lt, in-ge, in-pow, pow-in, in-sum-l, in-sum-r, sum-in}
 use Rattle.search.specs.declared.Masks.{Masks}
 use Rattle.search.specs.declared.Found.the-variants.{Nothing}
 use Rattle.search.specs.Search.{Met, Least}
-use Rattle.search.specs.Steps.{MetBy, AllCalm, NoneHolds, Gives, Asks, NoneFrom, NeededBy, WithinFrom, Joins, State, None}
+use Rattle.search.specs.Steps.{MetBy, ConflictFree, NoneHolds, Gives, Asks, NoneFrom}
+use Rattle.search.specs.Steps.{NeededBy, WithinFrom, Joins, State, NoCompletion}
 use Rattle.search.proofs.Steps.{«with», top-small, ones-zero}
 
 -- ---- the members from n on
@@ -55,10 +58,11 @@ module _ {r : Masks} {limit s b : ℕ} where
   pub not-apart : (Apart s b → ⊥) → NoneHolds r limit s b
   not-apart f t h = f (λ q i j. h .apart q (h .held q i) j)
 
-  pub not-calm : (AllCalm r s → ⊥) → NoneHolds r limit s b
-  not-calm f t h = f (λ p i.
-      let g = h .candidate .good p (h .held p i) in
-      record { permitted = g .permitted; apart = λ q x y. g .apart q (h .held q x) y })
+  pub not-allowed : (Within s (r .allowed) → ⊥) → NoneHolds r limit s b
+  not-allowed f t h = f (λ p i. h .candidate .allowed p (h .held p i))
+
+  pub in-conflict : (ConflictFree r s → ⊥) → NoneHolds r limit s b
+  in-conflict f t h = f (λ p i q x y. h .candidate .consistent p (h .held p i) .apart q (h .held q x) y)
 
   -- one of none is not to be had
   pub none-wanted : r .wanted ≡ 0 → r .every ≡ false → NoneHolds r limit s b
@@ -75,7 +79,8 @@ module _ {r : Masks} {limit s b : ℕ} where
   past-all c t h q l i g = omega (arith, in-lt (r .count) i (h .candidate .inside))
 
   -- none from p up to g gives any
-  pub none-between : {x : ℕ} (p g : ℕ) → ((q : ℕ) → p ≤ q → q < g → MetBy false x (at (r .grants) q) → ⊥) → NoneFrom r limit s b x g → NoneFrom r limit s b x p
+  pub none-between : {x : ℕ} (p g : ℕ) → ((q : ℕ) → p ≤ q → q < g → MetBy false x (at (r .grants) q) → ⊥)
+      → NoneFrom r limit s b x g → NoneFrom r limit s b x p
   none-between p g f n t h q l i k = ⊎-elim
       (λ u. n t h q u i k)
       (λ u. f q l u (k .privilege, k .asked, k .given))
@@ -90,7 +95,7 @@ module _ {r : Masks} {limit s b : ℕ} where
         few = h .few;
         held = λ v k. ⊎-elim
             (λ y. ⊎-elim (λ z. h .held v z) (λ z. subst (λ (w : ℕ). In w t) (sym (pow-in p z)) j) (or-in s (2 ^ p) y))
-            (λ y. h .candidate .good p j .whole v y)
+            (λ y. h .candidate .consistent p j .whole v y)
             (or-in (bitOr s (2 ^ p)) (at (r .needs) p) k);
         apart = h .apart;
       }))
@@ -139,8 +144,8 @@ module _ {r : Masks} {n c b : ℕ} (s : State r n c b) where
       )
 
   -- no candidate of that size holds what is chosen and needed
-  pub no-hope : {k w limit : ℕ} → NeededBy r c w → limit ≡ ones c + k → NoneHolds r limit (bitOr c w) b → None r n k c
-  no-hope {k} {w} h e f = record {
+  pub not-feasible : {k w limit : ℕ} → NeededBy r c w → limit ≡ ones c + k → NoneHolds r limit (bitOr c w) b → NoCompletion r n k c
+  not-feasible {k} {w} h e f = record {
     none = λ y l o d.
         let keeps : Within c (c + y) = λ q i. in-sum-l (s .head) n (s .above) l i in
         f (c + y) (record {
@@ -151,14 +156,15 @@ module _ {r : Masks} {n c b : ℕ} (s : State r n c b) where
         });
   }
 
-  pub no-join : {k m : ℕ} → n ≡ suc m → (Joins r c m → ⊥) → None r m k (c + 2 ^ m)
+  pub no-join : {k m : ℕ} → n ≡ suc m → (Joins r c m → ⊥) → NoCompletion r m k (c + 2 ^ m)
   no-join {k} {m} e f = record {
     none = λ y l o d.
         let w = «with» e s in
         let keeps : Within c (c + 2 ^ m + y) = λ q i. in-sum-l (w .head) m (w .above) l (in-sum-l (s .head) n (s .above) (top-small e) i) in
-        let p = d .good m (in-sum-l (w .head) m (w .above) l (in-sum-r (s .head) n (s .above) (top-small e) (in-pow m))) in
+        let i = in-sum-l (w .head) m (w .above) l (in-sum-r (s .head) n (s .above) (top-small e) (in-pow m)) in
+        let p = d .consistent m i in
         f (record {
-          permitted = p .permitted;
+          allowed = d .allowed m i;
           apart = λ q i j. p .apart q (keeps q i) j;
           whole = record {
             from = λ q u i. ⊎-elim
@@ -173,8 +179,8 @@ module _ {r : Masks} {n c b : ℕ} (s : State r n c b) where
   }
 
   -- m is needed, and the sets below m lack it
-  pub must : {k m w : ℕ} → n ≡ suc m → NeededBy r c w → In m w → None r m k c
-  must {k} {m} e h i = record {
+  pub needed-below : {k m w : ℕ} → n ≡ suc m → NeededBy r c w → In m w → NoCompletion r m k c
+  needed-below {k} {m} e h i = record {
     none = λ y l o d.
         let l′ : y < 2 ^ n = omega (arith, top-small e) in
         ⊎-elim
@@ -187,12 +193,12 @@ module _ {r : Masks} {n c b : ℕ} (s : State r n c b) where
   need-more {m} {w} e h = record {
     by = λ t d f q i. ⊎-elim
         (λ x. h .by t d (λ v z. f v (in-sum-l (s .head) n (s .above) (top-small e) z)) q x)
-        (λ x. d .good m (f m (in-sum-r (s .head) n (s .above) (top-small e) (in-pow m))) .whole q x)
+        (λ x. d .consistent m (f m (in-sum-r (s .head) n (s .above) (top-small e) (in-pow m))) .whole q x)
         (or-in w (at (r .needs) m) i);
   }
 
 -- every candidate holds the empty set
-pub no-candidate : {r : Masks} → r .count ≤ 20 → NoneHolds r 20 0 0 → Least r Nothing
+pub no-candidate : {r : Masks} → r .count ≤ mostPrincipals → NoneHolds r mostPrincipals 0 0 → Least r Nothing
 no-candidate {r} c f t d = f t (record {
   candidate = d;
   few = omega (arith, ones-le (r .count) t (d .inside));

@@ -9,11 +9,13 @@ use lib.Pow.{pow-pos, pow-mono}
 use lib.Bits.{bitOr}
 use lib.Count.{ones, onesIn, ones-step, ones-cat, ones-le}
 use Rattle.search.specs.declared.Masks.{Masks}
+use Rattle.common.specs.Limits.{mostPrincipals}
 use Rattle.common.specs.Sets.{Apart}
 use Rattle.search.specs.Search.{Candidate, Least}
 use Rattle.search.specs.declared.Found.{Found}
 use Rattle.search.specs.declared.Found.the-variants.{Set, Nothing}
-use Rattle.search.specs.Steps.{State, First, None, LeastIn}
+use Rattle.search.specs.SearchLaws.{before-fewer, before-size}
+use Rattle.search.specs.Steps.{State, LeastCompletion, NoCompletion, Completed}
 use Rattle.common.specs.SetLaws.{le-or-lt, none-in-zero, or-in, pow-in, in-lt, in-ge, sum-in}
 
 pub ones-zero : ones 0 ≡ 0
@@ -34,13 +36,20 @@ ones-top : (m x : ℕ) → x < 2 ^ m → ones (2 ^ m + x) ≡ 1 + ones x
 ones-top m x l = ap (λ (z : ℕ). ones (z + x)) (sym (one-mul (2 ^ m))) ∙ ones-cat m 1 x l ∙ ap (λ (z : ℕ). z + ones x) ones-one
 
 module _ {r : Masks} {n c : ℕ} where
-  pub leaf : Candidate r c → First r n 0 c c
-  leaf d = record { more = 0; is = omega arith; below = pow-pos n; size = ones-zero; candidate = d; least = λ y l e x. omega arith }
+  pub chosen-alone : Candidate r c → LeastCompletion r n 0 c c
+  chosen-alone d = record {
+    more = 0;
+    is = omega arith;
+    below = pow-pos n;
+    size = ones-zero;
+    candidate = d;
+    smallest = λ y l e x. omega arith;
+  }
 
-  pub no-leaf : (Candidate r c → ⊥) → None r n 0 c
-  no-leaf f = record { none = λ y l e d. f (subst (λ (z : ℕ). Candidate r z) (omega (arith, no-ones y e)) d) }
+  pub chosen-fails : (Candidate r c → ⊥) → NoCompletion r n 0 c
+  chosen-fails f = record { none = λ y l e d. f (subst (λ (z : ℕ). Candidate r z) (omega (arith, no-ones y e)) d) }
 
-  pub too-few : {k : ℕ} → n < k → None r n k c
+  pub too-few : {k : ℕ} → n < k → NoCompletion r n k c
   too-few h = record { none = λ y l e d. omega (arith, ones-le n y l) }
 
 module _ {n m : ℕ} (e : n ≡ suc m) where
@@ -58,17 +67,17 @@ module _ {n m : ℕ} (e : n ≡ suc m) where
   top-small = omega (arith, double, pow-pos m)
 
 module _ {r : Masks} {n m c : ℕ} (e : n ≡ suc m) where
-  pub keep : {k s : ℕ} → First r m k c s → First r n k c s
+  pub keep : {k s : ℕ} → LeastCompletion r m k c s → LeastCompletion r n k c s
   keep f = record {
     more = f .more;
     is = f .is;
     below = omega (arith, double e, f .below);
     size = f .size;
     candidate = f .candidate;
-    least = λ y l o d. ⊎-elim (λ h. f .least y h o d) (λ w. omega (arith, f .below, w .1)) (split e l);
+    smallest = λ y l o d. ⊎-elim (λ h. f .smallest y h o d) (λ w. omega (arith, f .below, w .1)) (split e l);
   }
 
-  pub neither : {k : ℕ} → 0 < k → None r m k c → None r m (k - 1) (c + 2 ^ m) → None r n k c
+  pub neither : {k : ℕ} → 0 < k → NoCompletion r m k c → NoCompletion r m (k - 1) (c + 2 ^ m) → NoCompletion r n k c
   neither {k} p f g = record {
     none = λ y l o d. ⊎-elim
         (λ h. f .none y h o d)
@@ -77,25 +86,25 @@ module _ {r : Masks} {n m c : ℕ} (e : n ≡ suc m) where
         (split e l);
   }
 
-  pub include : {k s : ℕ} → 0 < k → None r m k c → First r m (k - 1) (c + 2 ^ m) s → First r n k c s
+  pub include : {k s : ℕ} → 0 < k → NoCompletion r m k c → LeastCompletion r m (k - 1) (c + 2 ^ m) s → LeastCompletion r n k c s
   include {k} {s} p f g = record {
     more = 2 ^ m + g .more;
     is = omega (arith, g .is);
     below = omega (arith, double e, g .below);
     size = omega (arith, ones-top m (g .more) (g .below), g .size);
     candidate = g .candidate;
-    least = λ y l o d. ⊎-elim
+    smallest = λ y l o d. ⊎-elim
         (λ h. absurd (f .none y h o d))
         (λ w. omega (
           arith,
           w .1,
-          g .least (w .0) (w .2) (omega (arith, ones-top m (w .0) (w .2), ap ones (w .1)))
+          g .smallest (w .0) (w .2) (omega (arith, ones-top m (w .0) (w .2), ap ones (w .1)))
               (subst (λ (z : ℕ). Candidate r z) (omega (arith, w .1)) d),
         ))
         (split e l);
   }
 
-  pub step : {k : ℕ} (f : Found) → 0 < k → None r m k c → LeastIn r m (k - 1) (c + 2 ^ m) f → LeastIn r n k c f
+  pub step : {k : ℕ} (f : Found) → 0 < k → NoCompletion r m k c → Completed r m (k - 1) (c + 2 ^ m) f → Completed r n k c f
   step (Set s) p a b = include p a b
   step Nothing p a b = neither p a b
 
@@ -121,7 +130,7 @@ module _ {r : Masks} {n m c : ℕ} (e : n ≡ suc m) where
         (or-in b (2 ^ m) j);
   }
 
-  pub room : {b : ℕ} → State r n c b → (m < 20) × (c + 2 ^ m < 2 ^ 20)
+  pub room : {b : ℕ} → State r n c b → (m < mostPrincipals) × (c + 2 ^ m < 2 ^ mostPrincipals)
   room s = (omega (arith, s .few, s .small), omega (arith, s .room, pow-mono (s .few), double e, pow-pos m))
 
   -- m is added
@@ -137,7 +146,7 @@ module _ {r : Masks} {n m c : ℕ} (e : n ≡ suc m) where
 
 -- ---- from the search to the least candidate
 
-pub start : (r : Masks) → r .count ≤ 20 → State r (r .count) 0 0
+pub start : (r : Masks) → r .count ≤ mostPrincipals → State r (r .count) 0 0
 start r h = record {
   few = h;
   small = omega arith;
@@ -148,22 +157,21 @@ start r h = record {
 }
 
 module _ {r : Masks} {k : ℕ} (low : (t : ℕ) → Candidate r t → k ≤ ones t) where
-  pub first : {s : ℕ} → First r (r .count) k 0 s → Least r (Set s)
-  first {s} f = (
+  pub least-found : {s : ℕ} → LeastCompletion r (r .count) k 0 s → Least r (Set s)
+  least-found {s} f = (
     f .candidate,
     λ t d.
         let e : s ≡ f .more = omega (arith, f .is) in
         let o : ones s ≡ k = ap ones e ∙ f .size in
         ⊎-elim
-        (λ q. inr (
-          omega (arith, q, o),
-          omega (arith, e, f .least t (d .inside) (sym q) (subst (λ (z : ℕ). Candidate r z) (omega arith) d)),
-        ))
-        (λ l. inl (omega (arith, o, l)))
+        (λ q. before-size
+        (omega (arith, q, o))
+        (omega (arith, e, f .smallest t (d .inside) (sym q) (subst (λ (z : ℕ). Candidate r z) (omega arith) d))))
+        (λ l. before-fewer (omega (arith, o, l)))
         (eq-or-lt-of-le (low t d)),
   )
 
-  pub higher : None r (r .count) k 0 → (t : ℕ) → Candidate r t → k + 1 ≤ ones t
+  pub higher : NoCompletion r (r .count) k 0 → (t : ℕ) → Candidate r t → k + 1 ≤ ones t
   higher f t d = ⊎-elim
       (λ q. absurd (f .none t (d .inside) (sym q) (subst (λ (z : ℕ). Candidate r z) (omega arith) d)))
       (λ l. omega arith)

@@ -1,21 +1,24 @@
 -- What the least set of principals is, for the search: the constraints and privileges of each principal as sets, sets as numbers.
 -- `justification` says what these sets are for a record, and that the answer is then that of document 01.
-use Prim.Native.Nat.{ℕ, _^_, _≤_, _<_}
-use mathlib.Core.Path.{_≡_}
+use Prim.Native.Nat.{ℕ, _^_, _<_}
 use mathlib.Core.Bool.{Bool, true, false}
-use mathlib.Core.Logic.{_⊎_}
+use mathlib.Core.List.{List, [], _∷_}
 use lib.Count.{ones}
 use Rattle.common.specs.Lists.{at}
 use Rattle.common.specs.Sets.{In, Apart, Within}
+use Rattle.common.specs.Order.{NotAfter}
 use Rattle.search.specs.declared.Masks.{Masks}
 use Rattle.search.specs.declared.Found.{Found}
 use Rattle.search.specs.declared.Found.the-variants.{Set, Nothing}
 
--- p may stand in the set s: p is allowed, excludes no member, and all that p needs are members
-pub record Good (r : Masks) (s p : ℕ) : Type 0 where
-  pub permitted : In p (r .allowed)
+-- p is consistent in the set s: p excludes no member, and all that p needs are members
+pub record ConsistentIn (r : Masks) (s p : ℕ) : Type 0 where
   pub apart : Apart s (at (r .excludes) p)
   pub whole : Within (at (r .needs) p) s
+
+-- a consistent set, whether its members are allowed or not
+abbrev pub Consistent : Masks → ℕ → Type 0
+Consistent r s = (p : ℕ) → In p s → ConsistentIn r s p
 
 -- some member of s gives the privilege k
 pub record Given (r : Masks) (s k : ℕ) : Type 0 where
@@ -31,12 +34,17 @@ Met false r s = (k : ℕ) × In k (r .wanted) × Given r s k
 -- a consistent set of allowed principals that meets the guard
 pub record Candidate (r : Masks) (s : ℕ) : Type 0 where
   pub inside : s < 2 ^ (r .count)
-  pub good : (p : ℕ) → In p s → Good r s p
+  pub allowed : Within s (r .allowed)
+  pub consistent : Consistent r s
   pub met : Met (r .every) r s
 
--- s comes before t, or is t: fewer members, or as many and a number that is no larger
-abbrev pub Before : ℕ → ℕ → Type 0
-Before s t = (ones s < ones t) ⊎ ((ones s ≡ ones t) × (s ≤ t))
+-- the order of sets, by rank: "fewest members, then smallest set number"
+abbrev pub rank : ℕ → List ℕ
+rank s = ones s ∷ s ∷ []
+
+-- s comes before t, or is t
+pub record Before (s t : ℕ) : Type 0 where
+  pub ranked : NotAfter (rank s) (rank t)
 
 -- the least candidate; `Nothing` where there is none
 abbrev pub Least : Masks → Found → Type 0

@@ -5,19 +5,17 @@ use mathlib.Core.Bool.{Bool, true, false}
 use mathlib.Core.List.{List}
 use lib.Count.{ones}
 use Rattle.common.specs.Lists.{at}
+use Rattle.common.specs.Limits.{mostPrincipals}
 use Rattle.common.specs.Sets.{In, Apart, Within}
 use Rattle.search.specs.declared.Masks.{Masks}
 use Rattle.search.specs.declared.Found.{Found}
 use Rattle.search.specs.declared.Found.the-variants.{Set, Nothing}
-use Rattle.search.specs.Search.{Good, Candidate}
+use Rattle.search.specs.Search.{Candidate}
 
 -- the test b says whether P
 pub record Decides (b : Bool) (P : Type 0) : Type 0 where
   pub yes : b ≡ true → P
   pub no : b ≡ false → P → ⊥
-
-abbrev pub AllGood : Masks → ℕ → Type 0
-AllGood r s = (p : ℕ) → In p s → Good r s p
 
 -- privileges g meet the guard
 abbrev pub MetBy : Bool → ℕ → ℕ → Type 0
@@ -29,13 +27,9 @@ pub record Gathers (n s : ℕ) (lists : List ℕ) (g : ℕ) : Type 0 where
   pub only : (k : ℕ) → In k g → (p : ℕ) × (p < n) × In p s × In k (at lists p)
   pub all : (k p : ℕ) → p < n → In p s → In k (at lists p) → In k g
 
--- p is allowed and excludes no member of s
-pub record Calm (r : Masks) (s p : ℕ) : Type 0 where
-  pub permitted : In p (r .allowed)
-  pub apart : Apart s (at (r .excludes) p)
-
-abbrev pub AllCalm : Masks → ℕ → Type 0
-AllCalm r s = (p : ℕ) → In p s → Calm r s p
+-- no member of s excludes a member
+abbrev pub ConflictFree : Masks → ℕ → Type 0
+ConflictFree r s = (p : ℕ) → In p s → Apart s (at (r .excludes) p)
 
 -- ---- what lets the search turn back early
 
@@ -74,7 +68,7 @@ pub record WithinFrom (n a b : ℕ) : Type 0 where
 
 -- m may stand with c, whose members are above m: what m needs above m is there
 pub record Joins (r : Masks) (c m : ℕ) : Type 0 where
-  pub permitted : In m (r .allowed)
+  pub allowed : In m (r .allowed)
   pub apart : Apart c (at (r .excludes) m)
   pub whole : WithinFrom (m + 1) (at (r .needs) m) c
 
@@ -82,26 +76,27 @@ pub record Joins (r : Masks) (c m : ℕ) : Type 0 where
 
 -- c has members from n on alone, all below the count; none of b is in c or added to it
 pub record State (r : Masks) (n c b : ℕ) : Type 0 where
-  pub few : r .count ≤ 20
+  pub few : r .count ≤ mostPrincipals
   pub small : n ≤ r .count
   pub head : ℕ
   pub above : c ≡ head * 2 ^ n
   pub room : c + 2 ^ n ≤ 2 ^ (r .count)
   pub barred : (y : ℕ) → y < 2 ^ n → Apart (c + y) b
 
--- s is the least candidate of c and k more principals below n
-pub record First (r : Masks) (n k c s : ℕ) : Type 0 where
+-- s is the candidate of c and k more principals below n that has the smallest number
+pub record LeastCompletion (r : Masks) (n k c s : ℕ) : Type 0 where
   pub more : ℕ
   pub is : s ≡ c + more
   pub below : more < 2 ^ n
   pub size : ones more ≡ k
   pub candidate : Candidate r s
-  pub least : (y : ℕ) → y < 2 ^ n → ones y ≡ k → Candidate r (c + y) → more ≤ y
+  pub smallest : (y : ℕ) → y < 2 ^ n → ones y ≡ k → Candidate r (c + y) → more ≤ y
 
 -- there is none
-pub record None (r : Masks) (n k c : ℕ) : Type 0 where
+pub record NoCompletion (r : Masks) (n k c : ℕ) : Type 0 where
   pub none : (y : ℕ) → y < 2 ^ n → ones y ≡ k → Candidate r (c + y) → ⊥
 
-abbrev pub LeastIn : Masks → ℕ → ℕ → ℕ → Found → Type 0
-LeastIn r n k c (Set s) = First r n k c s
-LeastIn r n k c Nothing = None r n k c
+-- the answer of the search, one or the other
+abbrev pub Completed : Masks → ℕ → ℕ → ℕ → Found → Type 0
+Completed r n k c (Set s) = LeastCompletion r n k c s
+Completed r n k c Nothing = NoCompletion r n k c

@@ -9,20 +9,24 @@ ghost use mathlib.Core.Bool.{true, false};
 ghost use Prim.Native.Nat.{ℕ, _+_, _^_, _≤_, _<_};
 ghost use lib.Bits.{bitOr};
 ghost use lib.Count.{ones};
+ghost use Rattle.common.specs.Limits.{mostPrincipals, mostRelated};
 ghost use Rattle.common.specs.Lists.{at};
 ghost use Rattle.common.specs.Sets.{In, Apart, Within};
-ghost use Rattle.search.specs.Search.{Good, Candidate, Least};
-ghost use Rattle.search.specs.Steps.{Decides, AllGood, MetBy, Gathers, Calm, AllCalm, NoneHolds, Asks, NoneFrom, NeededBy, WithinFrom, Joins, State, LeastIn};
+ghost use Rattle.search.specs.Search.{ConsistentIn, Consistent, Candidate, Least};
+ghost use Rattle.search.specs.Steps.{Decides, MetBy, Gathers, ConflictFree, NoneHolds, Asks, NoneFrom, NeededBy};
+ghost use Rattle.search.specs.Steps.{WithinFrom, Joins, State, Completed};
+use common::MOST_PRINCIPALS;
+use common::MOST_RELATED;
 
 // The constraints and privileges of each principal, the principals that are allowed, and the guard.
 pub struct Masks {
     pub count: usize,
     pub allowed: u32,
     // The principals that p excludes, and those that p needs.
-    pub excludes: [u32; 20],
-    pub needs: [u32; 20],
+    pub excludes: [u32; MOST_PRINCIPALS],
+    pub needs: [u32; MOST_PRINCIPALS],
     // The privileges that p has.
-    pub grants: [u64; 20],
+    pub grants: [u64; MOST_PRINCIPALS],
     // The guard: every wanted privilege, or at least one.
     pub every: bool,
     pub wanted: u64,
@@ -65,9 +69,9 @@ fn within_from(a: u32, b: u32, n: usize) -> bool
     within(a >> n, b >> n)
 }
 
-// The set s with p added.
+// The set s, of demarcations or principals, with p added.
 pub fn add(s: u32, p: usize) -> u32
-    requires { ⌜ p < 20 ⌝ }
+    requires { ⌜ p < mostRelated ⌝ }
     ensures { λ r. ⌜ r ≡ bitOr s (2 ^ p) ⌝ }
 {
     s | (1u32 << p)
@@ -75,8 +79,8 @@ pub fn add(s: u32, p: usize) -> u32
 
 // The set c with m added, whose members are above m.
 fn with(c: u32, m: usize) -> u32
-    requires { ⌜ m < 20 ⌝ }
-    requires { ⌜ c + 2 ^ m < 2 ^ 20 ⌝ }
+    requires { ⌜ m < mostPrincipals ⌝ }
+    requires { ⌜ c + 2 ^ m < 2 ^ mostPrincipals ⌝ }
     ensures { λ r. ⌜ r ≡ c + 2 ^ m ⌝ }
 {
     c + (1u32 << m)
@@ -84,7 +88,7 @@ fn with(c: u32, m: usize) -> u32
 
 // The set w with what m needs added.
 fn with_needs(masks: Masks, w: u32, m: usize) -> u32
-    requires { ⌜ m < 20 ⌝ }
+    requires { ⌜ m < mostPrincipals ⌝ }
     ensures { λ r. ⌜ r ≡ bitOr w (at (masks .needs) m) ⌝ }
 {
     w | masks.needs[m]
@@ -103,9 +107,9 @@ pub fn meets(every: bool, wanted: u64, g: u64) -> bool
     }
 }
 
-// The privileges that the members of s below n list.
-pub fn gathered(n: usize, s: u32, lists: [u64; 20]) -> u64
-    requires { ⌜ n ≤ 20 ⌝ }
+// The privileges that the members of s below n list, where each demarcation or principal has its list.
+pub fn gathered(n: usize, s: u32, lists: [u64; MOST_RELATED]) -> u64
+    requires { ⌜ n ≤ mostRelated ⌝ }
     ensures { λ r. ⌜ Gathers n s lists r ⌝ }
 {
     let mut g: u64 = 0;
@@ -121,41 +125,37 @@ pub fn gathered(n: usize, s: u32, lists: [u64; 20]) -> u64
 
 // The privileges that the members of s give.
 fn granted_by(masks: Masks, s: u32) -> u64
-    requires { ⌜ masks .count ≤ 20 ⌝ }
+    requires { ⌜ masks .count ≤ mostPrincipals ⌝ }
     ensures { λ r. ⌜ Gathers (masks .count) s (masks .grants) r ⌝ }
 {
     let grants = masks.grants;
     gathered(masks.count, s, grants)
 }
 
-// Whether p may stand in s.
-fn good(masks: Masks, s: u32, p: usize) -> bool
-    requires { ⌜ p < 20 ⌝ }
-    ensures { λ r. ⌜ Decides r (Good masks s p) ⌝ }
+// Whether p excludes no member of s, and all that p needs are members of s.
+pub fn consistent_in(masks: Masks, s: u32, p: usize) -> bool
+    requires { ⌜ p < mostPrincipals ⌝ }
+    ensures { λ r. ⌜ Decides r (ConsistentIn masks s p) ⌝ }
 {
-    if has(masks.allowed, p) {
-        let excluded = masks.excludes[p];
-        if apart(s, excluded) {
-            within(masks.needs[p], s)
-        } else {
-            false
-        }
+    let excluded = masks.excludes[p];
+    if apart(s, excluded) {
+        within(masks.needs[p], s)
     } else {
         false
     }
 }
 
-// Whether each member of s may stand in s.
-fn all_good(masks: Masks, s: u32) -> bool
-    requires { ⌜ masks .count ≤ 20 ⌝ }
+// Whether each member of s is consistent in s. Which principals are allowed makes no difference.
+pub fn consistent(masks: Masks, s: u32) -> bool
+    requires { ⌜ masks .count ≤ mostPrincipals ⌝ }
     requires { ⌜ s < 2 ^ (masks .count) ⌝ }
-    ensures { λ r. ⌜ Decides r (AllGood masks s) ⌝ }
+    ensures { λ r. ⌜ Decides r (Consistent masks s) ⌝ }
 {
     let count = masks.count;
     let mut p: usize = 0;
     while p < count {
         if has(s, p) {
-            if !good(masks, s, p) {
+            if !consistent_in(masks, s, p) {
                 return false;
             }
         }
@@ -166,13 +166,16 @@ fn all_good(masks: Masks, s: u32) -> bool
 
 // Whether s is a candidate.
 fn candidate(masks: Masks, s: u32) -> bool
-    requires { ⌜ masks .count ≤ 20 ⌝ }
+    requires { ⌜ masks .count ≤ mostPrincipals ⌝ }
     requires { ⌜ s < 2 ^ (masks .count) ⌝ }
     ensures { λ r. ⌜ Decides r (Candidate masks s) ⌝ }
 {
+    if !within(s, masks.allowed) {
+        return false;
+    }
     let granted = granted_by(masks, s);
     if meets(masks.every, masks.wanted, granted) {
-        all_good(masks, s)
+        consistent(masks, s)
     } else {
         false
     }
@@ -180,28 +183,16 @@ fn candidate(masks: Masks, s: u32) -> bool
 
 // ---- whether a set can be completed
 
-// Whether p is one of the allowed, and no member of s is one of those that p excludes.
-fn calm(allowed: u32, excluded: u32, s: u32, p: usize) -> bool
-    requires { ⌜ p < 20 ⌝ }
-    ensures { λ r. ⌜ Decides r ((In p allowed) × (Apart s excluded)) ⌝ }
-{
-    if has(allowed, p) {
-        apart(s, excluded)
-    } else {
-        false
-    }
-}
-
-// False only where some member of s is not allowed or excludes another.
-fn all_calm(masks: Masks, s: u32) -> bool
-    requires { ⌜ masks .count ≤ 20 ⌝ }
-    ensures { λ r. ⌜ (r ≡ false → AllCalm masks s → ⊥) ⌝ }
+// False only where some member of s excludes another.
+fn conflict_free(masks: Masks, s: u32) -> bool
+    requires { ⌜ masks .count ≤ mostPrincipals ⌝ }
+    ensures { λ r. ⌜ (r ≡ false → ConflictFree masks s → ⊥) ⌝ }
 {
     let count = masks.count;
     let mut p: usize = 0;
     while p < count {
         if has(s, p) {
-            if !calm(masks.allowed, masks.excludes[p], s, p) {
+            if !apart(s, masks.excludes[p]) {
                 return false;
             }
         }
@@ -210,9 +201,9 @@ fn all_calm(masks: Masks, s: u32) -> bool
     true
 }
 
-// False only where no candidate of at most limit members holds s and none of barred.
-fn fits(masks: Masks, limit: usize, s: u32, barred: u32) -> bool
-    requires { ⌜ masks .count ≤ 20 ⌝ }
+// False only where no candidate of at most limit members holds s and none of barred: s is too large, barred, not allowed or in conflict.
+fn admissible(masks: Masks, limit: usize, s: u32, barred: u32) -> bool
+    requires { ⌜ masks .count ≤ mostPrincipals ⌝ }
     ensures { λ r. ⌜ (r ≡ false → NoneHolds masks limit s barred) ⌝ }
 {
     let size = u32::count_ones(s) as usize;
@@ -222,13 +213,16 @@ fn fits(masks: Masks, limit: usize, s: u32, barred: u32) -> bool
     if !apart(s, barred) {
         return false;
     }
-    all_calm(masks, s)
+    if !within(s, masks.allowed) {
+        return false;
+    }
+    conflict_free(masks, s)
 }
 
 // Of the wanted privileges that are not granted, one that few principals can give: first one that none can, then one, then two.
 // Any answer will do.
 fn rarest(masks: Masks, chosen: u32, granted: u64, barred: u32) -> u64
-    requires { ⌜ masks .count ≤ 20 ⌝ }
+    requires { ⌜ masks .count ≤ mostPrincipals ⌝ }
 {
     let unmet = masks.wanted & !granted;
     let free = masks.allowed & !barred;
@@ -249,7 +243,7 @@ fn rarest(masks: Masks, chosen: u32, granted: u64, barred: u32) -> u64
 
 // What p gives, where p is free and excludes none of the chosen ones.
 fn open_grants(free: u32, chosen: u32, excludes: u32, grants: u64, p: usize) -> u64
-    requires { ⌜ p < 20 ⌝ }
+    requires { ⌜ p < mostPrincipals ⌝ }
 {
     if has(free, p) {
         if apart(chosen, excludes) {
@@ -280,7 +274,7 @@ fn lowest(x: u64) -> u64 {
 
 // Privileges of which every candidate has a member that gives some.
 fn asked(masks: Masks, chosen: u32, granted: u64, barred: u32) -> u64
-    requires { ⌜ (masks .count ≤ 20) × (masks .wanted ≡ 0 → ⊥) ⌝ }
+    requires { ⌜ (masks .count ≤ mostPrincipals) × (masks .wanted ≡ 0 → ⊥) ⌝ }
     ensures { λ r. ⌜ Asks masks r ⌝ }
 {
     if masks.every {
@@ -301,7 +295,7 @@ fn possible(
     granted: u64,
     barred: u32,
 ) -> bool
-    requires { ⌜ masks .count ≤ 20 ⌝ }
+    requires { ⌜ masks .count ≤ mostPrincipals ⌝ }
     ensures { λ r. ⌜ (r ≡ false → NoneHolds masks limit chosen barred) ⌝ }
 {
     if meets(masks.every, masks.wanted, granted) {
@@ -318,8 +312,8 @@ fn possible(
 }
 
 // The first principal from p on that gives some of x; the count, or p where it is beyond, if there is none.
-fn next_giver(count: usize, grants: [u64; 20], x: u64, p: usize) -> usize
-    requires { ⌜ count ≤ 20 ⌝ }
+fn next_giver(count: usize, grants: [u64; MOST_PRINCIPALS], x: u64, p: usize) -> usize
+    requires { ⌜ count ≤ mostPrincipals ⌝ }
     ensures { λ r. ⌜ (p ≤ r) × ((q : ℕ) → p ≤ q → q < r → MetBy false x (at grants q) → ⊥) ⌝ }
 {
     let mut g = p;
@@ -332,7 +326,8 @@ fn next_giver(count: usize, grants: [u64; 20], x: u64, p: usize) -> usize
     g
 }
 
-// The same of the candidates with a member from p on that gives some of x: with the first that does; then, that one barred, with a later one.
+// The same of the candidates with a member from p on that gives some of x: with the first that does;
+// then, that one barred, with a later one.
 fn by_giver(
     masks: Masks,
     limit: usize,
@@ -342,7 +337,7 @@ fn by_giver(
     x: u64,
     p: usize,
 ) -> bool
-    requires { ⌜ (masks .count ≤ 20) × (0 < depth) ⌝ }
+    requires { ⌜ (masks .count ≤ mostPrincipals) × (0 < depth) ⌝ }
     ensures { λ r. ⌜ (r ≡ false → NoneFrom masks limit chosen barred x p) ⌝ }
 {
     let grants = masks.grants;
@@ -351,7 +346,7 @@ fn by_giver(
         return false;
     }
     let grown = add(chosen, g) | masks.needs[g];
-    if fits(masks, limit, grown, barred) {
+    if admissible(masks, limit, grown, barred) {
         let given = gathered(masks.count, grown, grants);
         if possible(masks, limit, depth - 1, grown, given, barred) {
             return true;
@@ -362,21 +357,21 @@ fn by_giver(
 
 // False only where no candidate of at most limit members holds s and none of barred.
 fn feasible(masks: Masks, limit: usize, s: u32, barred: u32) -> bool
-    requires { ⌜ masks .count ≤ 20 ⌝ }
+    requires { ⌜ masks .count ≤ mostPrincipals ⌝ }
     ensures { λ r. ⌜ (r ≡ false → NoneHolds masks limit s barred) ⌝ }
 {
-    if !fits(masks, limit, s, barred) {
+    if !admissible(masks, limit, s, barred) {
         return false;
     }
     let granted = granted_by(masks, s);
-    possible(masks, limit, 20, s, granted, barred)
+    possible(masks, limit, MOST_PRINCIPALS, s, granted, barred)
 }
 
 // ---- the search
 
 // Whether m may stand with the set c, whose members are above m.
 fn joins(masks: Masks, c: u32, m: usize) -> bool
-    requires { ⌜ m < 20 ⌝ }
+    requires { ⌜ m < mostPrincipals ⌝ }
     ensures { λ r. ⌜ Decides r (Joins masks c m) ⌝ }
 {
     if has(masks.allowed, m) {
@@ -395,7 +390,7 @@ fn joins(masks: Masks, c: u32, m: usize) -> bool
 fn search(masks: Masks, n: usize, k: usize, chosen: u32, needed: u32, barred: u32) -> Found
     requires { ⌜ State masks n chosen barred ⌝ }
     requires { ⌜ NeededBy masks chosen needed ⌝ }
-    ensures { λ r. ⌜ LeastIn masks n k chosen r ⌝ }
+    ensures { λ r. ⌜ Completed masks n k chosen r ⌝ }
 {
     if k == 0 {
         if candidate(masks, chosen) {
@@ -428,11 +423,11 @@ fn search(masks: Masks, n: usize, k: usize, chosen: u32, needed: u32, barred: u3
 
 // The least candidate.
 pub fn least(masks: Masks) -> Found
-    requires { ⌜ masks .count ≤ 20 ⌝ }
+    requires { ⌜ masks .count ≤ mostPrincipals ⌝ }
     ensures { λ r. ⌜ Least masks r ⌝ }
 {
     let count = masks.count;
-    if !feasible(masks, 20, 0, 0) {
+    if !feasible(masks, MOST_PRINCIPALS, 0, 0) {
         return Found::Nothing;
     }
     let mut k: usize = 0;

@@ -3,26 +3,35 @@ use Prim.Native.Nat.{ℕ, _+_, _*_, _≤_}
 use mathlib.Core.Path.{_≡_}
 use mathlib.Core.List.{List, [], _∷_, _++_}
 use lib.ListN.{length, take, drop}
+use Rattle.common.specs.Limits.{mostLines}
 use Rattle.common.specs.Lists.{at}
 use Rattle.octets.specs.Line.{framed, textOf, totals}
 use Rattle.octets.specs.Number.{inOctets}
 use Rattle.writing.specs.declared.Draft.{Draft}
 
--- so many lines of so many bytes each fit into the rest of the buffer, and a bundle has no more lines
-pub record Fits (buffer : List ℕ) (d : Draft) (count size : ℕ) : Type 0 where
-  pub room : d .place + count * size ≤ length buffer
-  pub few : d .lines + count ≤ 2000
-  pub fair : d .sum ≤ 4096 * d .lines
+-- the longest body is a method's: form and privileges
+abbrev pub longestBody : ℕ
+longestBody = 9
 
--- the lines ls were written: the buffer has them from the place on, and is as it was before and past them
+-- what the octets of a line add up to at most: length, kind, body and check
+abbrev pub greatestTotal : ℕ
+greatestTotal = 255 * (longestBody + 3)
+
+-- the rest of the buffer has room for so many lines of so many bytes each, and a bundle has no more lines
+pub record RoomFor (buffer : List ℕ) (d : Draft) (count size : ℕ) : Type 0 where
+  pub room : d .offset + count * size ≤ length buffer
+  pub few : d .lines + count ≤ mostLines
+  pub fair : d .sum ≤ greatestTotal * d .lines
+
+-- the lines ls were written: the buffer has them from the offset on, and is as it was before and past them
 pub record Put (before after : List ℕ) (d e : Draft) (ls : List (List ℕ)) : Type 0 where
-  pub bytes : after ≡ take (d .place) before ++ (textOf ls ++ drop (e .place) before)
-  pub place : e .place ≡ d .place + length (textOf ls)
+  pub bytes : after ≡ take (d .offset) before ++ (textOf ls ++ drop (e .offset) before)
+  pub offset : e .offset ≡ d .offset + length (textOf ls)
   pub lines : e .lines ≡ d .lines + length ls
   pub sum : e .sum ≡ d .sum + totals ls
-  pub fair : totals ls ≤ 4096 * length ls
+  pub fair : totals ls ≤ greatestTotal * length ls
 
--- ---- the line at place i of a table with these columns
+-- ---- the line of row i of a table with these columns
 
 abbrev pub pairLine : ℕ → List ℕ → List ℕ → ℕ → List ℕ
 pairLine kind a b i = framed kind (at a i ∷ at b i ∷ [])
@@ -30,13 +39,13 @@ pairLine kind a b i = framed kind (at a i ∷ at b i ∷ [])
 abbrev pub tripleLine : ℕ → List ℕ → List ℕ → List ℕ → ℕ → List ℕ
 tripleLine kind a b c i = framed kind (at a i ∷ at b i ∷ at c i ∷ [])
 
--- a number of 2 octets after one of 1
-abbrev pub shortLine : ℕ → List ℕ → List ℕ → ℕ → List ℕ
-shortLine kind a b i = framed kind (at a i ∷ inOctets 2 (at b i))
+-- a number of 2 octets after one of 1: object, roles
+abbrev pub userLine : ℕ → List ℕ → List ℕ → ℕ → List ℕ
+userLine kind a b i = framed kind (at a i ∷ inOctets 2 (at b i))
 
--- a number of 8 octets; and after one of 1
-abbrev pub wideLine : ℕ → List ℕ → ℕ → List ℕ
-wideLine kind a i = framed kind (inOctets 8 (at a i))
+-- a number of 8 octets: privileges; and after one of 1: form, privileges
+abbrev pub demarcationLine : ℕ → List ℕ → ℕ → List ℕ
+demarcationLine kind a i = framed kind (inOctets 8 (at a i))
 
-abbrev pub ledLine : ℕ → List ℕ → List ℕ → ℕ → List ℕ
-ledLine kind a b i = framed kind (at a i ∷ inOctets 8 (at b i))
+abbrev pub methodLine : ℕ → List ℕ → List ℕ → ℕ → List ℕ
+methodLine kind a b i = framed kind (at a i ∷ inOctets 8 (at b i))

@@ -7,11 +7,12 @@ ghost use lib.ListN.{length};
 ghost use Rattle.common.specs.Lists.{table};
 ghost use Rattle.octets.specs.Line.{total, framed};
 ghost use Rattle.octets.specs.Number.{inOctets};
-ghost use Rattle.writing.specs.Drafts.{Fits, Put, pairLine, tripleLine, shortLine, wideLine, ledLine};
+ghost use Rattle.writing.specs.Drafts.{longestBody, greatestTotal, RoomFor, Put};
+ghost use Rattle.writing.specs.Drafts.{pairLine, tripleLine, userLine, demarcationLine, methodLine};
 
-// How far writing has come: the place of the next line, how many lines were written, and the plain sum of their octets.
+// How far writing has come: the offset of the next line, how many lines were written, and the plain sum of their octets.
 pub struct Draft {
-    pub place: usize,
+    pub offset: usize,
     pub lines: usize,
     pub sum: usize,
 }
@@ -25,8 +26,8 @@ fn number_of(octet: u8) -> usize
 
 // The plain sum of the octets of a line, the check octet included.
 fn line_total(kind: u8, body: &[u8]) -> usize
-    requires { ⌜ length (now body) ≤ 9 ⌝ }
-    ensures { λ r. ⌜ (r ≡ total (framed kind (now (body .entry)))) × (r ≤ 4096) ⌝ }
+    requires { ⌜ length (now body) ≤ longestBody ⌝ }
+    ensures { λ r. ⌜ (r ≡ total (framed kind (now (body .entry)))) × (r ≤ greatestTotal) ⌝ }
 {
     let mut sum = body.len() + (kind as usize);
     let mut i = 0;
@@ -37,16 +38,16 @@ fn line_total(kind: u8, body: &[u8]) -> usize
     sum + (256 - sum % 256) % 256
 }
 
-// Writes one line of a kind into the rest of the buffer, from the draft's place on.
+// Writes one line of a kind into the rest of the buffer, from the draft's offset on.
 pub fn put_line(buffer: &mut [u8], from: Draft, kind: u8, body: &[u8]) -> Draft
-    requires { ⌜ (length (now body) ≤ 9) × Fits (now buffer) from 1 (2 * length (now body) + 7) ⌝ }
+    requires { ⌜ (length (now body) ≤ longestBody) × RoomFor (now buffer) from 1 (2 * length (now body) + 7) ⌝ }
     ensures { λ r. ⌜ Put (now (buffer .entry)) (now (buffer .exit)) from r (framed kind (now (body .entry)) ∷ []) ⌝ }
 {
-    let place = from.place;
-    let length = octets::write_line(&mut buffer[place..], kind, body);
+    let offset = from.offset;
+    let length = octets::write_line(&mut buffer[offset..], kind, body);
     let total = line_total(kind, body);
     Draft {
-        place: place + length,
+        offset: offset + length,
         lines: from.lines + 1,
         sum: from.sum + total,
     }
@@ -54,7 +55,7 @@ pub fn put_line(buffer: &mut [u8], from: Draft, kind: u8, body: &[u8]) -> Draft
 
 // ---- tables of lines, by their columns
 
-// Bodies of two octets.
+// Lines of a kind whose bodies are two octets, one from each column.
 pub fn put_pairs<'a>(
     buffer: &mut [u8],
     from: Draft,
@@ -63,8 +64,9 @@ pub fn put_pairs<'a>(
     firsts: &'a [u8],
     seconds: &'a [u8],
 ) -> Draft
-    requires { ⌜ (count ≤ length (now firsts)) × (count ≤ length (now seconds)) × Fits (now buffer) from count 11 ⌝ }
-    ensures { λ r. ⌜ Put (now (buffer .entry)) (now (buffer .exit)) from r (table count (pairLine kind (now (firsts .entry)) (now (seconds .entry)))) ⌝ }
+    requires { ⌜ (count ≤ length (now firsts)) × (count ≤ length (now seconds)) × RoomFor (now buffer) from count 11 ⌝ }
+    ensures { λ r. ⌜ Put (now (buffer .entry)) (now (buffer .exit)) from r
+        (table count (pairLine kind (now (firsts .entry)) (now (seconds .entry)))) ⌝ }
 {
     let mut draft = from;
     let mut i = 0;
@@ -77,7 +79,7 @@ pub fn put_pairs<'a>(
     draft
 }
 
-// Bodies of three octets.
+// Lines of a kind whose bodies are three octets, one from each column.
 pub fn put_triples<'a>(
     buffer: &mut [u8],
     from: Draft,
@@ -87,8 +89,10 @@ pub fn put_triples<'a>(
     seconds: &'a [u8],
     thirds: &'a [u8],
 ) -> Draft
-    requires { ⌜ (count ≤ length (now firsts)) × (count ≤ length (now seconds)) × (count ≤ length (now thirds)) × Fits (now buffer) from count 13 ⌝ }
-    ensures { λ r. ⌜ Put (now (buffer .entry)) (now (buffer .exit)) from r (table count (tripleLine kind (now (firsts .entry)) (now (seconds .entry)) (now (thirds .entry)))) ⌝ }
+    requires { ⌜ (count ≤ length (now firsts)) × (count ≤ length (now seconds)) × (count ≤ length (now thirds))
+        × RoomFor (now buffer) from count 13 ⌝ }
+    ensures { λ r. ⌜ Put (now (buffer .entry)) (now (buffer .exit)) from r
+        (table count (tripleLine kind (now (firsts .entry)) (now (seconds .entry)) (now (thirds .entry)))) ⌝ }
 {
     let mut draft = from;
     let mut i = 0;
@@ -108,6 +112,7 @@ fn user_body(object: u8, roles: u16) -> [u8; 3]
     [object, (roles / 256 % 256) as u8, (roles % 256) as u8]
 }
 
+// Lines of kind 02, from the columns of objects and of roles.
 pub fn put_users<'a>(
     buffer: &mut [u8],
     from: Draft,
@@ -115,8 +120,9 @@ pub fn put_users<'a>(
     objects: &'a [u8],
     roles: &'a [u16],
 ) -> Draft
-    requires { ⌜ (count ≤ length (now objects)) × (count ≤ length (now roles)) × Fits (now buffer) from count 13 ⌝ }
-    ensures { λ r. ⌜ Put (now (buffer .entry)) (now (buffer .exit)) from r (table count (shortLine 0x02 (now (objects .entry)) (now (roles .entry)))) ⌝ }
+    requires { ⌜ (count ≤ length (now objects)) × (count ≤ length (now roles)) × RoomFor (now buffer) from count 13 ⌝ }
+    ensures { λ r. ⌜ Put (now (buffer .entry)) (now (buffer .exit)) from r
+        (table count (userLine 0x02 (now (objects .entry)) (now (roles .entry)))) ⌝ }
 {
     let mut draft = from;
     let mut i = 0;
@@ -152,9 +158,11 @@ fn privilege_octets(privileges: u64) -> [u8; 8]
     ]
 }
 
+// Lines of kind 05, from the column of privileges.
 pub fn put_demarcations(buffer: &mut [u8], from: Draft, count: usize, privileges: &[u64]) -> Draft
-    requires { ⌜ (count ≤ length (now privileges)) × Fits (now buffer) from count 23 ⌝ }
-    ensures { λ r. ⌜ Put (now (buffer .entry)) (now (buffer .exit)) from r (table count (wideLine 0x05 (now (privileges .entry)))) ⌝ }
+    requires { ⌜ (count ≤ length (now privileges)) × RoomFor (now buffer) from count 23 ⌝ }
+    ensures { λ r. ⌜ Put (now (buffer .entry)) (now (buffer .exit)) from r
+        (table count (demarcationLine 0x05 (now (privileges .entry)))) ⌝ }
 {
     let mut draft = from;
     let mut i = 0;
@@ -175,6 +183,7 @@ fn method_body(form: u8, privileges: u64) -> [u8; 9]
     [form, o[0], o[1], o[2], o[3], o[4], o[5], o[6], o[7]]
 }
 
+// Lines of kind 0A, from the columns of forms and of privileges.
 pub fn put_methods<'a>(
     buffer: &mut [u8],
     from: Draft,
@@ -182,8 +191,9 @@ pub fn put_methods<'a>(
     forms: &'a [u8],
     privileges: &'a [u64],
 ) -> Draft
-    requires { ⌜ (count ≤ length (now forms)) × (count ≤ length (now privileges)) × Fits (now buffer) from count 25 ⌝ }
-    ensures { λ r. ⌜ Put (now (buffer .entry)) (now (buffer .exit)) from r (table count (ledLine 0x0A (now (forms .entry)) (now (privileges .entry)))) ⌝ }
+    requires { ⌜ (count ≤ length (now forms)) × (count ≤ length (now privileges)) × RoomFor (now buffer) from count 25 ⌝ }
+    ensures { λ r. ⌜ Put (now (buffer .entry)) (now (buffer .exit)) from r
+        (table count (methodLine 0x0A (now (forms .entry)) (now (privileges .entry)))) ⌝ }
 {
     let mut draft = from;
     let mut i = 0;

@@ -6,23 +6,24 @@ use mathlib.Core.Bool.{Bool, true≢false, false≢true}
 use mathlib.Core.List.{List}
 use mathlib.Core.Logic.{⊎-elim, _≢_}
 use mathlib.Core.Path.{refl, sym, _∙_}
+use Rattle.common.specs.Limits.{mostRelated}
 use Rattle.closure.specs.Closure.{On}
 use borrow.Author.Needs.{needs}
 use Rattle.closure.proofs.has_circle.Statement.{statement}
 use Rattle.closure.proofs.has_circle.Tie as tie
 
 -- no circle through x and y
-abbrev Fine : List (List Bool) → ℕ → ℕ → Type 0
-Fine c x y = x ≢ y → On c x y → On c y x → ⊥
+abbrev NoCircle : List (List Bool) → ℕ → ℕ → Type 0
+NoCircle c x y = x ≢ y → On c x y → On c y x → ⊥
 
 abbrev Inv-loop2 : tie.InvT-loop2
-Inv-loop2 count c n i j₀ j = (j ≤ n) × ((y : ℕ) → y < j → Fine c i y)
+Inv-loop2 count c n i j₀ j = (j ≤ n) × ((y : ℕ) → y < j → NoCircle c i y)
 
 abbrev μ-loop2 : tie.MeasureT-loop2
 μ-loop2 count c n i j₀ j = n - j
 
 abbrev Inv-loop : tie.InvT-loop
-Inv-loop count c n i₀ i = (i ≤ n) × ((x : ℕ) → x < i → (y : ℕ) → y < n → Fine c x y)
+Inv-loop count c n i₀ i = (i ≤ n) × ((x : ℕ) → x < i → (y : ℕ) → y < n → NoCircle c x y)
 
 abbrev μ-loop : tie.MeasureT-loop
 μ-loop count c n i₀ i = n - i
@@ -60,8 +61,8 @@ returns c =
     let d = p .before .before in
     let a = d .before .before in
     let b = a .before .before in
-    let li : b .loop .i < min (b .before .before .args .count) 20 = omega arith in
-    let lj : a .loop2 .j < min (b .before .before .args .count) 20 = omega arith in
+    let li : b .loop .i < min (b .before .before .args .count) mostRelated = omega arith in
+    let lj : a .loop2 .j < min (b .before .before .args .count) mostRelated = omega arith in
     (λ _. (b .loop .i, a .loop2 .j, d .if1 .taken, (li, lj, p .if2 .taken), (lj, li, c .if3 .taken)), λ _. refl)
 
 add-j : tie.Need-add-j Inv-loop2 μ-loop2 Inv-loop μ-loop
@@ -75,7 +76,7 @@ loop2-again c =
     let a = c .before .before in
     let b = a .before .before in (
       omega arith,
-      below-more (Fine (b .before .before .args .t1) (b .loop .i)) _ (a .loop2 .inv .1)
+      below-more (NoCircle (b .before .before .args .t1) (b .loop .i)) _ (a .loop2 .inv .1)
           (λ ne p q. ⊎-elim
           (λ w. true≢false (sym q ∙ w .4 .left))
           (λ v. ⊎-elim (λ w. true≢false (sym p ∙ w .2 .left)) (λ w. ne (w .left)) v)
@@ -93,7 +94,7 @@ loop-again c =
     let a = c .before in
     let b = a .before .before in (
       omega arith,
-      below-more (λ (x : ℕ). (y : ℕ) → y < b .before .at-most .result → Fine (b .before .before .args .t1) x y) _ (b .loop .inv .1)
+      below-more (λ (x : ℕ). (y : ℕ) → y < b .before .at-most .result → NoCircle (b .before .before .args .t1) x y) _ (b .loop .inv .1)
           (λ y l. a .loop2 .inv .1 y (omega arith)),
     )
 

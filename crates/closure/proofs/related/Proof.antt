@@ -4,6 +4,7 @@ use mathlib.Core.Logic.{inl, inr, ⊎-elim}
 use mathlib.Core.Path.{_≡_}
 use native.Mathlib.Omega.{arith}
 use borrow.Author.Tests.{ltb-true, ltb-false}
+use Rattle.common.specs.Limits.{mostPairs}
 use Rattle.closure.proofs.Relating.{Relating, relating-none, relating-put, relating-over}
 use borrow.Author.Needs.{needs}
 use Rattle.closure.proofs.related.Statement.{statement}
@@ -34,13 +35,13 @@ cast-b : tie.Need-cast-b Inv-loop μ-loop
 cast-b c = search needs
 
 mul-m : tie.Need-mul-m Inv-loop μ-loop
-mul-m c = search needs
+mul-m c = omega (arith, ltb-true)
 
 index-1-m : tie.Need-index-1-m Inv-loop μ-loop
-index-1-m c = search needs
+index-1-m c = omega (arith, ltb-true)
 
 index-2-m : tie.Need-index-2-m Inv-loop μ-loop
-index-2-m c = search needs
+index-2-m c = omega (arith, ltb-true)
 
 add-e : tie.Need-add-e Inv-loop μ-loop
 add-e c = search needs
@@ -53,12 +54,15 @@ loop-again c =
     let a = c .before .before .loop .inv in
     ⊎-elim
     (λ w. rw (w .2) (relating-put (a .0) (w .0 .taken) (let l = w .1 .taken in omega (arith, ltb-true)), omega arith))
-    (λ w. rw (w .1) (relating-over (a .0) (⊎-elim (λ o. inr (let l = o .1 .left in omega (arith, ltb-false))) (λ o. inl (o .left)) (w .0 .came)), omega arith))
+    (λ w. rw (w .1) (
+      relating-over (a .0) (⊎-elim (λ o. inr (let l = o .1 .left in omega (arith, ltb-false))) (λ o. inl (o .left)) (w .0 .came)),
+      omega arith,
+    ))
     (c .if1 .came)
 
 returns : tie.Need-returns Inv-loop μ-loop
 returns c =
-    let e : c .before .loop .e ≡ min (c .before .before .before .args .count) 380 = omega arith in
+    let e : c .before .loop .e ≡ min (c .before .before .before .args .count) mostPairs = omega arith in
     rw (← e) (c .before .loop .inv .0 .made)
 
 pub related-spec : {M : Type 1} → statement M

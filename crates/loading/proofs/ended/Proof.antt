@@ -2,7 +2,7 @@
 use mathlib.Core.Path.{sym, _∙_}
 use native.Mathlib.Omega.{arith}
 use borrow.Author.Needs.{needs}
-use Rattle.octets.specs.AnswerLaws.{told-refused, told-octets}
+use Rattle.octets.specs.AnswerLaws.{answer-refused, answer-octets}
 use Rattle.loading.proofs.Ends.{ended-refused, ended-more, ended-circle, ended-well}
 use Rattle.loading.proofs.ended.Statement.{statement}
 use Rattle.loading.proofs.ended.Tie as tie
@@ -22,7 +22,7 @@ not-loaded-requires c κs = search needs
 returns : tie.Need-returns
 returns c =
     let l = c .before .before .before .before in
-    c .not-loaded .ensures ∙ ended-refused _ _ _ _ (l .before .if1 .taken) (told-refused _ _ _ (sym (l .read-line .ensures) ∙ c .before .before .number .given .1))
+    c .not-loaded .ensures ∙ ended-refused _ _ _ _ (l .before .if1 .taken) (answer-refused _ _ _ (sym (l .read-line .ensures) ∙ c .before .before .number .given .1))
 
 enum-told : tie.Need-enum-told
 enum-told c = search needs
@@ -36,7 +36,7 @@ not-loaded-requires-2 c κs = search needs
 returns-2 : tie.Need-returns-2
 returns-2 c =
     let l = c .before .before .before in
-    c .not-loaded2 .ensures ∙ ended-more _ _ _ _ (l .before .if1 .taken) (told-octets _ _ _ _ _ (sym (l .read-line .ensures) ∙ c .before .enum-told .given .1) .framed)
+    c .not-loaded2 .ensures ∙ ended-more _ _ _ _ (l .before .if1 .taken) (answer-octets _ _ _ _ _ (sym (l .read-line .ensures) ∙ c .before .enum-told .given .1) .framed)
 
 has-circles-requires : tie.Need-has-circles-requires
 has-circles-requires c κs = c .before .before .pre .1 .loads

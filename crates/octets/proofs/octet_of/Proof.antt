@@ -27,7 +27,8 @@ add-result c = omega arith
 
 returns-3 : tie.Need-returns-3
 returns-3 c =
-    (λ i. c .before .before .before .digit-value .ensures i * 16 + c .before .digit-value2 .ensures i) ∙ sym (both _ _ (omega arith) (omega arith))
+    (λ i. c .before .before .before .digit-value .ensures i * 16 + c .before .digit-value2 .ensures i)
+    ∙ sym (both _ _ (omega arith) (omega arith))
 
 pub octet-of-spec : {M : Type 1} → statement M
 octet-of-spec =

@@ -26,7 +26,7 @@ same-length c = search needs
 returns : tie.Need-returns
 returns c =
     let a = c .before .before .before .args in
-    λ i. set (set (a .buffer .now) (a .place) (c .before .digit .ensures i)) (a .place + 1) (c .digit2 .ensures i)
+    λ i. set (set (a .buffer .now) (a .offset) (c .before .digit .ensures i)) (a .offset + 1) (c .digit2 .ensures i)
 
 pub put-octet-spec : {M : Type 1} → statement M
 put-octet-spec =

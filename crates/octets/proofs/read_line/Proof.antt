@@ -7,16 +7,16 @@ use borrow.Author.Needs.{needs}
 use lib.ListN.{length}
 use Rattle.common.specs.Lists.{at}
 use Rattle.octets.specs.Line.{digitValue, octet}
-use Rattle.octets.specs.Answers.{told}
+use Rattle.octets.specs.Answers.{lineAnswer}
 use Rattle.octets.proofs.Running.{Run, run-start, run-more, run-out, run-other, run-short, run-other₂, run-end}
 use Rattle.octets.proofs.read_line.Statement.{statement}
 use Rattle.octets.proofs.read_line.Tie as tie
 
 abbrev Inv-loop : tie.InvT-loop
-Inv-loop text place i₀ n₀ first₀ sum₀ total₀ i n first sum total = Run text place i n first sum total
+Inv-loop text offset i₀ n₀ first₀ sum₀ total₀ i n first sum total = Run text offset i n first sum total
 
 abbrev μ-loop : tie.MeasureT-loop
-μ-loop text place i₀ n₀ first₀ sum₀ total₀ i n first sum total = length text - i
+μ-loop text offset i₀ n₀ first₀ sum₀ total₀ i n first sum total = length text - i
 
 loop-holds : tie.Need-loop-holds Inv-loop μ-loop
 loop-holds c = run-start _ _
@@ -24,17 +24,17 @@ loop-holds c = run-start _ _
 shared-slice-read-a : tie.Need-shared-slice-read-a Inv-loop μ-loop
 shared-slice-read-a c = omega arith
 
-add-at-end : tie.Need-add-at-end Inv-loop μ-loop
-add-at-end c = omega arith
+add-answer-at-end : tie.Need-add-answer-at-end Inv-loop μ-loop
+add-answer-at-end c = omega arith
 
-at-end-requires : tie.Need-at-end-requires Inv-loop μ-loop
-at-end-requires c κs = search needs
+answer-at-end-requires : tie.Need-answer-at-end-requires Inv-loop μ-loop
+answer-at-end-requires c κs = search needs
 
 returns : tie.Need-returns Inv-loop μ-loop
 returns c =
     let a = c .before .before in
     let h = a .before .before in
-    c .at-end .ensures ∙ run-end (h .loop .inv) (a .before .loop-test .taken) (c .before .if1 .taken)
+    c .answer-at-end .ensures ∙ run-end (h .loop .inv) (a .before .loop-test .taken) (c .before .if1 .taken)
 
 digit-value-requires : tie.Need-digit-value-requires Inv-loop μ-loop
 digit-value-requires c κs = search needs
@@ -44,7 +44,8 @@ returns-2 c =
     let d = c .before .before in
     let a = d .before in
     let h = a .before .before in
-    sym (ap (told (h .before .before .args .place)) (run-other (h .loop .inv) (a .before .loop-test .taken) (d .if1 .left) (omega arith)))
+    let e = run-other (h .loop .inv) (a .before .loop-test .taken) (d .if1 .left) (omega arith) in
+    sym (ap (lineAnswer (h .before .before .args .offset)) e)
 
 add-j : tie.Need-add-j Inv-loop μ-loop
 add-j c = omega arith
@@ -54,7 +55,8 @@ returns-3 c =
     let d = c .before .before .before in
     let a = d .before in
     let h = a .before .before in
-    sym (ap (told (h .before .before .args .place)) (run-short (h .loop .inv) (a .before .loop-test .taken) (d .if1 .left) (omega arith)))
+    let e = run-short (h .loop .inv) (a .before .loop-test .taken) (d .if1 .left) (omega arith) in
+    sym (ap (lineAnswer (h .before .before .args .offset)) e)
 
 shared-slice-read-digit-value : tie.Need-shared-slice-read-digit-value Inv-loop μ-loop
 shared-slice-read-digit-value c = omega arith
@@ -62,12 +64,17 @@ shared-slice-read-digit-value c = omega arith
 digit-value-requires-2 : tie.Need-digit-value-requires-2 Inv-loop μ-loop
 digit-value-requires-2 c κs = search needs
 
+-- where a second byte follows, the place at which the first was no line's end
+abbrev first-byte : tie.Else3 Inv-loop μ-loop → tie.Else1 Inv-loop μ-loop
+first-byte c = c .before .before .before
+
 returns-4 : tie.Need-returns-4 Inv-loop μ-loop
 returns-4 c =
-    let d = c .before .before .before .before .before .before in
+    let d = first-byte (c .before .before .before) in
     let a = d .before in
     let h = a .before .before in
-    sym (ap (told (h .before .before .args .place)) (run-other₂ (h .loop .inv) (a .before .loop-test .taken) (d .if1 .left) (omega arith) (omega arith)))
+    let e = run-other₂ (h .loop .inv) (a .before .loop-test .taken) (d .if1 .left) (omega arith) (omega arith) in
+    sym (ap (lineAnswer (h .before .before .args .offset)) e)
 
 mul-o : tie.Need-mul-o Inv-loop μ-loop
 mul-o c = omega arith
@@ -105,10 +112,11 @@ loop-again c =
     let i = h .loop .i in
     let x : w .digit-value .result ≡ digitValue (at s i) = w .digit-value .ensures in
     let y : v .before .digit-value2 .result ≡ digitValue (at s (i + 1)) = v .before .digit-value2 .ensures in
-    let e : u .wrapping-add-u8 .result ≡ (h .loop .sum + octet (at s i) (at s (i + 1))) % 256 = u .wrapping-add-u8 .ensures ∙ (λ t. (h .loop .sum + (x t * 16 + y t)) % 256) in
+    let e : u .wrapping-add-u8 .result ≡ (h .loop .sum + octet (at s i) (at s (i + 1))) % 256 =
+    u .wrapping-add-u8 .ensures ∙ (λ t. (h .loop .sum + (x t * 16 + y t)) % 256) in
     let f : c .wrapping-add-usize .result ≡ (h .loop .total + octet (at s i) (at s (i + 1))) % 2 ^ 64 =
     c .wrapping-add-usize .ensures ∙ (λ t. (h .loop .total + (x t * 16 + y t)) % 2 ^ 64) in
-    subst₂ (λ (z t : ℕ). Run s (h .before .before .args .place) (i + 2) (h .loop .n + 1) (u .before .if5 .first) z t) (sym e) (sym f)
+    subst₂ (λ (z t : ℕ). Run s (h .before .before .args .offset) (i + 2) (h .loop .n + 1) (u .before .if5 .first) z t) (sym e) (sym f)
     (run-more (h .loop .inv) (u .before .if5 .first) (b .before .if3 .left)
     (subst (λ (z : ℕ). z < 16) x (b .before .before .if2 .left)) (subst (λ (z : ℕ). z < 16) y (v .if4 .left))
     (⊎-elim (λ f. inl (f .0 .taken, f .1 ∙ (λ t. x t * 16 + y t))) (λ f. inr (f .0 .left, f .1)) (u .before .if5 .came)))
@@ -116,7 +124,7 @@ loop-again c =
 returns-5 : tie.Need-returns-5 Inv-loop μ-loop
 returns-5 c =
     let h = c .before in
-    sym (ap (told (h .before .before .args .place)) (run-out (h .loop .inv) (omega arith)))
+    sym (ap (lineAnswer (h .before .before .args .offset)) (run-out (h .loop .inv) (omega arith)))
 
 pub read-line-spec : {M : Type 1} → statement M
 read-line-spec =
@@ -126,8 +134,8 @@ read-line-spec =
     μ-loop
     loop-holds
     shared-slice-read-a
-    add-at-end
-    at-end-requires
+    add-answer-at-end
+    answer-at-end-requires
     returns
     digit-value-requires
     returns-2

@@ -2,7 +2,7 @@
 use mathlib.Core.Path.{sym, _∙_}
 use lib.ListN.{drop}
 use Rattle.octets.specs.Line.{frame}
-use Rattle.octets.specs.AnswerLaws.{ToldOctets, told-refused, told-octets}
+use Rattle.octets.specs.AnswerLaws.{AnswerOctets, answer-refused, answer-octets}
 use Rattle.reading.proofs.Nexts.{next-end, next-refused, next-other, next-size, next-body}
 use borrow.Author.Needs.{needs}
 use Rattle.reading.proofs.next_line.Statement.{statement}
@@ -24,8 +24,8 @@ octet-at-requires : tie.Need-octet-at-requires
 octet-at-requires c κs = search needs
 
 -- the octets of the line that was read
-line : (c : tie.After-count) → let f = c .before .before in let g = c .count .given .0 in ToldOctets (f .before .before .before .args .place) (g .0) (g .1 .0) (g .1 .1 .0) (frame (drop (f .before .before .before .args .place) (f .before .before .before .args .text .now)))
-line c = let f = c .before .before in told-octets _ _ _ _ _ (sym (f .read-line .ensures) ∙ c .count .given .1)
+line : (c : tie.After-count) → let f = c .before .before in let g = c .count .given .0 in AnswerOctets (f .before .before .before .args .place) (g .0) (g .1 .0) (g .1 .1 .0) (frame (drop (f .before .before .before .args .place) (f .before .before .before .args .text .now)))
+line c = let f = c .before .before in answer-octets _ _ _ _ _ (sym (f .read-line .ensures) ∙ c .count .given .1)
 
 returns-2 : tie.Need-returns-2
 returns-2 c =
@@ -41,7 +41,7 @@ returns-3 c =
 returns-4 : tie.Need-returns-4
 returns-4 c =
     let f = c .before .before .before in
-    next-refused _ _ _ _ (f .before .if1 .left) (told-refused _ _ _ (sym (f .read-line .ensures) ∙ c .before .number .given .1))
+    next-refused _ _ _ _ (f .before .if1 .left) (answer-refused _ _ _ (sym (f .read-line .ensures) ∙ c .before .number .given .1))
 
 returns-5 : tie.Need-returns-5
 returns-5 c =

@@ -1,9 +1,11 @@
--- `possible` and `by_giver` call one another and meet their contracts: at depth d the measures are 22d + 21 and 22d + (20 - p).
+-- `possible` and `by_giver` call one another and meet their contracts. With m the most principals, at depth d the measures are
+-- (m + 2)d + m + 1 and (m + 2)d + (m - p).
 use native.Mathlib.Omega.{arith}
 use mathlib.Core.Path.{subst}
 use mathlib.Core.Logic.{⊎-elim}
 use Prim.Native.Nat.{ℕ, _+_, _-_, _*_, _<_}
 use lib.Bits.{bitOr}
+use Rattle.common.specs.Limits.{mostPrincipals}
 use Rattle.common.specs.Lists.{at}
 use Rattle.search.specs.Steps.{NoneHolds, NoneFrom}
 use Rattle.search.proofs.Decide.{true-not-false}
@@ -19,7 +21,7 @@ use Rattle.search.proofs.possible.Kinds as possible-kinds
 use Rattle.search.proofs.+by_giver+possible.Lts-possible as possible-lts
 use Rattle.search.proofs.add.Reads as add-reads
 use Rattle.search.proofs.asked.Reads as asked-reads
-use Rattle.search.proofs.fits.Reads as fits-reads
+use Rattle.search.proofs.admissible.Reads as admissible-reads
 use Rattle.search.proofs.gathered.Reads as gathered-reads
 use Rattle.search.proofs.meets.Reads as meets-reads
 use Rattle.search.proofs.next_giver.Reads as next-giver-reads
@@ -27,10 +29,10 @@ use Rattle.search.proofs.+by_giver+possible.{statement}
 use Rattle.search.proofs.+by_giver+possible.Tie.{close}
 
 abbrev μ-by-giver : Measures 0 by-giver-kinds.ps ℕ
-μ-by-giver κs a = 22 * a .1 .1 .0 + (20 - a .1 .1 .1 .1 .1 .1 .0)
+μ-by-giver κs a = (mostPrincipals + 2) * a .1 .1 .0 + (mostPrincipals - a .1 .1 .1 .1 .1 .1 .0)
 
 abbrev μ-possible : Measures 0 possible-kinds.ps ℕ
-μ-possible κs a = 22 * a .1 .1 .0 + 21
+μ-possible κs a = (mostPrincipals + 2) * a .1 .1 .0 + (mostPrincipals + 1)
 
 abbrev by-giver-at : ℕ → In 0 by-giver-kinds.ps
 by-giver-at t = and 0 by-giver-kinds.ps (is 0 by-giver-kinds.ps μ-by-giver t) by-giver.Pre
@@ -52,8 +54,8 @@ giver-claims t = (
   next-giver-reads.Learnt,
   add-reads.Asked,
   add-reads.Learnt,
-  fits-reads.Asked,
-  fits-reads.Learnt,
+  admissible-reads.Asked,
+  admissible-reads.Learnt,
   gathered-reads.Asked,
   gathered-reads.Learnt,
   possible-below t,
@@ -90,8 +92,8 @@ by-giver-mul-grown t c = search needs
 by-giver-element-copy-out-grown : (t : ℕ) → by-giver-lts.Need-element-copy-out-grown (giver-claims t) (by-giver-at t) by-giver.Post
 by-giver-element-copy-out-grown t c = search needs
 
-by-giver-fits-requires : (t : ℕ) → by-giver-lts.Need-fits-requires (giver-claims t) (by-giver-at t) by-giver.Post
-by-giver-fits-requires t c κs = search needs
+by-giver-admissible-requires : (t : ℕ) → by-giver-lts.Need-admissible-requires (giver-claims t) (by-giver-at t) by-giver.Post
+by-giver-admissible-requires t c κs = search needs
 
 by-giver-gathered-requires : (t : ℕ) → by-giver-lts.Need-gathered-requires (giver-claims t) (by-giver-at t) by-giver.Post
 by-giver-gathered-requires t c κs = search needs
@@ -125,7 +127,7 @@ by-giver-returns-3 t c =
     λ e. none-between (a .p) g (n .next-giver .ensures .1)
     (neither-way g
     (subst (λ (z : ℕ). NoneHolds (a .t1) (a .limit) (bitOr z (at (a .t1 .needs) g)) (a .barred)) (added .add .ensures)
-    (⊎-elim (λ w. w .2 .ensures (w .3 .left)) (λ w. tested .fits2 .ensures (w .left)) (joined .if2 .came)))
+    (⊎-elim (λ w. w .2 .ensures (w .3 .left)) (λ w. tested .admissible .ensures (w .left)) (joined .if2 .came)))
     (subst (λ (z : ℕ). NoneFrom (a .t1) (a .limit) (a .chosen) z (a .x) (g + 1)) (c .before .add2 .ensures) (c .by-giver .ensures e)))
 
 possible-meets-requires : (t : ℕ) → possible-lts.Need-meets-requires (possible-claims t) (possible-at t) possible.Post
@@ -158,7 +160,7 @@ pub +by-giver+possible-spec : {M : Type 1} → statement M
     (by-giver-add-requires t)
     (by-giver-mul-grown t)
     (by-giver-element-copy-out-grown t)
-    (by-giver-fits-requires t)
+    (by-giver-admissible-requires t)
     (by-giver-gathered-requires t)
     (by-giver-sub-possible t)
     (by-giver-possible-requires t)

@@ -7,9 +7,10 @@ use borrow.Author.Needs.{needs}
 use borrow.Author.Tests.{not-true, not-false}
 use lib.Pow.{pow-pos}
 use lib.Count.{ones-le}
-use Rattle.search.specs.Steps.{State, NeededBy, None}
-use Rattle.search.proofs.Steps.{leaf, no-leaf, too-few, keep, neither, without, «with», room, step}
-use Rattle.search.proofs.Prunes.{no-hope, must, no-join, need-more}
+use Rattle.common.specs.Limits.{mostPrincipals}
+use Rattle.search.specs.Steps.{State, NeededBy, NoCompletion}
+use Rattle.search.proofs.Steps.{chosen-alone, chosen-fails, too-few, keep, neither, without, «with», room, step}
+use Rattle.search.proofs.Prunes.{not-feasible, needed-below, no-join, need-more}
 use borrow.Fn.Kinds.{In}
 use borrow.Fn.PlainCycle.{Measures, is, falls, and}
 use Rattle.search.proofs.search.Reads as search′
@@ -60,10 +61,10 @@ search-candidate-requires t c κs =
     (s .few, omega (arith, s .room, pow-pos (c .before .args .n)))
 
 search-returns : (t : ℕ) → search-lts.Need-returns (claims t) (search-at t) search′.Post
-search-returns t c = rw (c .before .before .if1 .taken) (leaf (c .before .candidate .ensures .yes (c .if2 .taken)))
+search-returns t c = rw (c .before .before .if1 .taken) (chosen-alone (c .before .candidate .ensures .yes (c .if2 .taken)))
 
 search-returns-2 : (t : ℕ) → search-lts.Need-returns-2 (claims t) (search-at t) search′.Post
-search-returns-2 t c = rw (c .before .before .if1 .taken) (no-leaf (c .before .candidate .ensures .no (c .if2 .left)))
+search-returns-2 t c = rw (c .before .before .if1 .taken) (chosen-fails (c .before .candidate .ensures .no (c .if2 .left)))
 
 search-returns-3 : (t : ℕ) → search-lts.Need-returns-3 (claims t) (search-at t) search′.Post
 search-returns-3 t c = too-few (c .if3 .taken)
@@ -85,7 +86,7 @@ module _ {t : ℕ} (c : search-lts.Else3 (claims t) (search-at t) search′.Post
   need : NeededBy (entry .args .masks) (entry .args .chosen) (entry .args .needed)
   need = entry .pre .1 .1
 
-  in-range : entry .args .n - 1 < 20
+  in-range : entry .args .n - 1 < mostPrincipals
   in-range = room pos state .0
 
 search-cast-size : (t : ℕ) → search-lts.Need-cast-size (claims t) (search-at t) search′.Post
@@ -101,7 +102,7 @@ search-feasible-requires t c κs = state c .few
 search-returns-4 : (t : ℕ) → search-lts.Need-returns-4 (claims t) (search-at t) search′.Post
 search-returns-4 t c =
     let past = c .before .before in
-    no-hope (state past) (need past) refl (c .before .feasible .ensures (not-true _ (c .if4 .taken)))
+    not-feasible (state past) (need past) refl (c .before .feasible .ensures (not-true _ (c .if4 .taken)))
 
 search-sub-m : (t : ℕ) → search-lts.Need-sub-m (claims t) (search-at t) search′.Post
 search-sub-m t c = omega (arith, pos (c .before .before))
@@ -112,9 +113,14 @@ search-has-requires t c κs = omega (arith, in-range (c .before .before))
 search-add-requires : (t : ℕ) → search-lts.Need-add-requires (claims t) (search-at t) search′.Post
 search-add-requires t c κs = in-range (c .before .before .before .before)
 
+-- where m is passed by: what those tests found
+module _ {t : ℕ} (c : search-lts.After-add (claims t) (search-at t) search′.Post) where
+  abbrev passed-by : search-lts.Else3 (claims t) (search-at t) search′.Post
+  passed-by = c .before .before .before .before .before
+
 search-search-requires : (t : ℕ) → search-lts.Need-search-requires (claims t) (search-at t) search′.Post
 search-search-requires t c κs =
-    let past = c .before .before .before .before .before in
+    let past = passed-by c in
     (omega (arith, entry past .pre .0, pos past), (rw (c .add .ensures) (without (pos past) (state past)), need past))
 
 search-enum-known-without : (t : ℕ) → search-lts.Need-enum-known-without (claims t) (search-at t) search′.Post
@@ -123,7 +129,7 @@ search-enum-known-without t c = search needs
 search-returns-5 : (t : ℕ) → search-lts.Need-returns-5 (claims t) (search-at t) search′.Post
 search-returns-5 t c =
     let called = c .before .before .before in
-    keep (pos (called .before .before .before .before .before .before)) (rw (c .before .without .given .1) at (called .search .ensures))
+    keep (pos (passed-by (called .before))) (rw (c .before .without .given .1) at (called .search .ensures))
 
 search-enum-told : (t : ℕ) → search-lts.Need-enum-told (claims t) (search-at t) search′.Post
 search-enum-told t c = search needs
@@ -134,10 +140,10 @@ module _ {t : ℕ} (c : search-lts.Joined5 (claims t) (search-at t) search′.Po
   tested = c .before .before .before .before
 
   -- there is no candidate among them
-  skipped : let a = entry tested .args in None (a .masks) (a .n - 1) (a .k) (a .chosen)
+  skipped : let a = entry tested .args in NoCompletion (a .masks) (a .n - 1) (a .k) (a .chosen)
   skipped = ⊎-elim
       (λ w. rw (w .4 .given .1) at (w .2 .ensures))
-      (λ w. must (state tested) (pos tested) (need tested) (c .before .has .ensures .yes (not-false _ (w .left))))
+      (λ w. needed-below (state tested) (pos tested) (need tested) (c .before .has .ensures .yes (not-false _ (w .left))))
       (c .if5 .came)
 
 search-joins-requires : (t : ℕ) → search-lts.Need-joins-requires (claims t) (search-at t) search′.Post
@@ -145,9 +151,9 @@ search-joins-requires t c κs = in-range (tested c)
 
 search-returns-6 : (t : ℕ) → search-lts.Need-returns-6 (claims t) (search-at t) search′.Post
 search-returns-6 t c =
-    let joined = c .before .before in
-    let past = tested joined in
-    neither (pos past) (some past) (skipped joined)
+    let met = c .before .before in
+    let past = tested met in
+    neither (pos past) (some past) (skipped met)
     (no-join (state past) (pos past) (c .before .joins .ensures .no (not-true _ (c .if6 .taken))))
 
 search-with-requires : (t : ℕ) → search-lts.Need-with-requires (claims t) (search-at t) search′.Post
@@ -158,12 +164,17 @@ search-with-requires t c κs =
 search-with-needs-requires : (t : ℕ) → search-lts.Need-with-needs-requires (claims t) (search-at t) search′.Post
 search-with-needs-requires t c κs = in-range (tested (c .before .before .before))
 
+-- where m is added
+module _ {t : ℕ} (c : search-lts.After-with-needs (claims t) (search-at t) search′.Post) where
+  abbrev joined : search-lts.Joined5 (claims t) (search-at t) search′.Post
+  joined = c .before .before .before .before
+
 search-sub-search : (t : ℕ) → search-lts.Need-sub-search (claims t) (search-at t) search′.Post
-search-sub-search t c = omega (arith, some (tested (c .before .before .before .before)))
+search-sub-search t c = omega (arith, some (tested (joined c)))
 
 search-search-requires-2 : (t : ℕ) → search-lts.Need-search-requires-2 (claims t) (search-at t) search′.Post
 search-search-requires-2 t c κs =
-    let past = tested (c .before .before .before .before) in (
+    let past = tested (joined c) in (
       omega (arith, entry past .pre .0, pos past),
       (
         rw (c .before .with .ensures) («with» (pos past) (state past)),
@@ -173,9 +184,9 @@ search-search-requires-2 t c κs =
 
 search-returns-7 : (t : ℕ) → search-lts.Need-returns-7 (claims t) (search-at t) search′.Post
 search-returns-7 t c =
-    let joined = c .before .before .before .before .before in
-    let past = tested joined in
-    step (pos past) (c .search2 .result) (some past) (skipped joined) (rw (c .before .before .with .ensures) at (c .search2 .ensures))
+    let met = joined (c .before) in
+    let past = tested met in
+    step (pos past) (c .search2 .result) (some past) (skipped met) (rw (c .before .before .with .ensures) at (c .search2 .ensures))
 
 pub +search-spec : {M : Type 1} → statement M
 +search-spec = close μ-search λ t. search-lts.spec (claims t)

@@ -38,10 +38,11 @@ loop-again c =
     let at-loop = c .before .before .before in
     let a = at-loop .before .args in
     let p = at-loop .loop .p in
-    let inv = at-loop .loop .inv .0 in (
+    let inv = at-loop .loop .inv .0 in
+    let test = c .before .has .ensures in (
       ⊎-elim
-          (λ w. subst (λ (z : ℕ). Gathers (p + 1) (a .s) (a .t3) z) (sym (w .1)) (gathers-more p (c .before .has .ensures .yes (w .0 .taken)) inv))
-          (λ w. subst (λ (z : ℕ). Gathers (p + 1) (a .s) (a .t3) z) (sym (w .1)) (gathers-skip p (c .before .has .ensures .no (w .0 .left)) inv))
+          (λ w. subst (λ (z : ℕ). Gathers (p + 1) (a .s) (a .t3) z) (sym (w .1)) (gathers-more p (test .yes (w .0 .taken)) inv))
+          (λ w. subst (λ (z : ℕ). Gathers (p + 1) (a .s) (a .t3) z) (sym (w .1)) (gathers-skip p (test .no (w .0 .left)) inv))
           (c .if1 .came),
       omega arith,
     )

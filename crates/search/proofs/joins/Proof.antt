@@ -37,7 +37,7 @@ returns c =
     let then1 = then2 .before .before .before in
     record {
       yes = λ t. record {
-        permitted = then1 .before .has .ensures .yes (then1 .if1 .taken);
+        allowed = then1 .before .has .ensures .yes (then1 .if1 .taken);
         apart = then2 .before .apart .ensures .yes (then2 .if2 .taken);
         whole = c .within-from .ensures .yes t;
       };
@@ -48,7 +48,7 @@ returns-2 : tie.Need-returns-2
 returns-2 c = refuted (λ g. c .before .apart .ensures .no (c .if2 .left) (g .apart))
 
 returns-3 : tie.Need-returns-3
-returns-3 c = refuted (λ g. c .before .has .ensures .no (c .if1 .left) (g .permitted))
+returns-3 c = refuted (λ g. c .before .has .ensures .no (c .if1 .left) (g .allowed))
 
 pub joins-spec : {M : Type 1} → statement M
 joins-spec =

@@ -6,7 +6,7 @@ use borrow.Author.Tests.{not-true}
 use lib.Count.{ones}
 use Rattle.common.specs.SetLaws.{none-in-zero}
 use Rattle.search.specs.Search.{Candidate}
-use Rattle.search.proofs.Steps.{start, first, higher, past}
+use Rattle.search.proofs.Steps.{start, least-found, higher, past}
 use Rattle.search.proofs.Prunes.{no-candidate}
 use Rattle.search.proofs.least.Statement.{statement}
 use Rattle.search.proofs.least.Tie as tie
@@ -38,7 +38,7 @@ enum-known-found c = search needs
 returns-2 : tie.Need-returns-2 Inv-loop μ-loop
 returns-2 c =
     let called = c .before .before .before in
-    first (called .before .before .loop .inv .0) (rw (c .before .found .given .1) at (called .search .ensures))
+    least-found (called .before .before .loop .inv .0) (rw (c .before .found .given .1) at (called .search .ensures))
 
 enum-told : tie.Need-enum-told Inv-loop μ-loop
 enum-told c = search needs

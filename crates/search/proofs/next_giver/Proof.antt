@@ -43,9 +43,10 @@ loop-again : tie.Need-loop-again Inv-loop μ-loop
 loop-again c =
     let met = c .before in
     let a = met .before .before in
+    let args = a .before .args in
     let i = a .loop .inv in (
       λ q l k m. ⊎-elim
-          (λ e. met .meets .ensures .no (c .if1 .left) (subst (λ (z : ℕ). MetBy false (a .before .args .x) (at (a .before .args .t2) z)) e m))
+          (λ e. met .meets .ensures .no (c .if1 .left) (subst (λ (z : ℕ). MetBy false (args .x) (at (args .t2) z)) e m))
           (λ u. i .0 q l u m)
           (let b : q ≤ a .loop .g = omega arith in eq-or-lt-of-le b),
       omega arith,

@@ -1,7 +1,7 @@
 -- `method_body` meets its contract.
 use mathlib.Core.List.{[], _∷_}
-use lib.ListN.{getD}
 use borrow.Author.Needs.{needs}
+use Rattle.common.specs.Lists.{at}
 use Rattle.writing.proofs.method_body.Statement.{statement}
 use Rattle.writing.proofs.method_body.Tie as tie
 
@@ -33,7 +33,9 @@ array-read-t28 : tie.Need-array-read-t28
 array-read-t28 c = search needs
 
 returns : tie.Need-returns
-returns c = λ j. let o = c .privilege-octets .ensures j in c .before .args .form ∷ getD o 0 0 ∷ getD o 1 0 ∷ getD o 2 0 ∷ getD o 3 0 ∷ getD o 4 0 ∷ getD o 5 0 ∷ getD o 6 0 ∷ getD o 7 0 ∷ []
+returns c = λ j.
+    let o = c .privilege-octets .ensures j in
+    c .before .args .form ∷ at o 0 ∷ at o 1 ∷ at o 2 ∷ at o 3 ∷ at o 4 ∷ at o 5 ∷ at o 6 ∷ at o 7 ∷ []
 
 pub method-body-spec : {M : Type 1} → statement M
 method-body-spec =

@@ -87,8 +87,8 @@ all c =
     (put-table demarcation [] r (room-formula f) d (put-none _ _)))))
 
 -- within the buffer
-room-whole : (c : tie.After-put-demarcations) → c .put-demarcations .result .place ≤ length (entry (headed (usered (edged (formed c)))) .args .buffer .now)
-room-whole c = omega (arith, all c .place, entry (headed (usered (edged (formed c)))) .pre .2 .room)
+room-whole : (c : tie.After-put-demarcations) → c .put-demarcations .result .offset ≤ length (entry (headed (usered (edged (formed c)))) .args .buffer .now)
+room-whole c = omega (arith, all c .offset, entry (headed (usered (edged (formed c)))) .pre .2 .room)
 
 slice-aggregate-put-line : tie.Need-slice-aggregate-put-line
 slice-aggregate-put-line c = search needs

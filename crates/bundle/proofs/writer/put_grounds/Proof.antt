@@ -86,8 +86,8 @@ all c =
     (put-table method [] r (room-prerequisite q) m (put-none _ _)))))
 
 -- within the buffer
-room-whole : (c : tie.After-put-methods) → c .put-methods .result .place ≤ length (entry (first (second (third (fourth c)))) .args .buffer .now)
-room-whole c = omega (arith, all c .place, entry (first (second (third (fourth c)))) .pre .2 .room)
+room-whole : (c : tie.After-put-methods) → c .put-methods .result .offset ≤ length (entry (first (second (third (fourth c)))) .args .buffer .now)
+room-whole c = omega (arith, all c .offset, entry (first (second (third (fourth c)))) .pre .2 .room)
 
 put-pairs-requires : tie.Need-put-pairs-requires
 put-pairs-requires c κs =

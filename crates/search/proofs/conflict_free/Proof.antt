@@ -1,11 +1,11 @@
--- `search::all_calm` meets its contract: it says false only at a member that is not calm.
+-- `search::conflict_free` meets its contract: it says false only at a member that excludes another.
 use Prim.Native.Nat.{_≤_, _-_}
 use native.Mathlib.Omega.{arith}
 use borrow.Author.Tests.{not-true}
 use Rattle.search.proofs.Decide.{true-not-false}
-use Rattle.search.proofs.all_calm.Statement.{statement}
-use Rattle.search.proofs.all_calm.Tie as tie
-use Rattle.search.proofs.calm.Reads as calm-reads
+use Rattle.search.proofs.conflict_free.Statement.{statement}
+use Rattle.search.proofs.conflict_free.Tie as tie
+use Rattle.search.proofs.apart.Reads as apart-reads
 use Rattle.search.proofs.has.Reads as has-reads
 
 abbrev Inv-loop : tie.InvT-loop
@@ -20,19 +20,19 @@ loop-holds c = omega arith
 has-requires : tie.Need-has-requires Inv-loop μ-loop
 has-requires c κs = omega arith
 
-mul-calm : tie.Need-mul-calm Inv-loop μ-loop
-mul-calm c = omega arith
+mul-apart : tie.Need-mul-apart Inv-loop μ-loop
+mul-apart c = omega arith
 
-element-copy-out-calm : tie.Need-element-copy-out-calm Inv-loop μ-loop
-element-copy-out-calm c = omega arith
+element-copy-out-apart : tie.Need-element-copy-out-apart Inv-loop μ-loop
+element-copy-out-apart c = omega arith
 
-calm-requires : tie.Need-calm-requires Inv-loop μ-loop
-calm-requires c κs = omega arith
+apart-requires : tie.Need-apart-requires Inv-loop μ-loop
+apart-requires c κs = omega arith
 
 returns : tie.Need-returns Inv-loop μ-loop
 returns c =
     let then1 = c .before .before .before in
-    λ e f. c .before .calm .ensures .no (not-true _ (c .if2 .taken)) (let g = f _ (then1 .before .has .ensures .yes (then1 .if1 .taken)) in (g .permitted, g .apart))
+    λ e f. c .before .apart .ensures .no (not-true _ (c .if2 .taken)) (f _ (then1 .before .has .ensures .yes (then1 .if1 .taken)))
 
 add-p : tie.Need-add-p Inv-loop μ-loop
 add-p c = omega arith
@@ -46,17 +46,17 @@ loop-again c = omega arith
 returns-2 : tie.Need-returns-2 Inv-loop μ-loop
 returns-2 c = λ e f. true-not-false e
 
-pub all-calm-spec : {M : Type 1} → statement M
-all-calm-spec =
+pub conflict-free-spec : {M : Type 1} → statement M
+conflict-free-spec =
     tie.close
     (tie.spec
     Inv-loop
     μ-loop
     loop-holds
     has-requires
-    mul-calm
-    element-copy-out-calm
-    calm-requires
+    mul-apart
+    element-copy-out-apart
+    apart-requires
     returns
     add-p
     loop-less

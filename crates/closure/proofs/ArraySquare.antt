@@ -15,7 +15,8 @@ use denote.Array.{Array, each}
 use Rattle.closure.proofs.Square.{Square}
 
 module _ (R : RattleType) (n : ℕ) where
-  row-length : (xs : List (List (R .Denot))) (us : List Val) → shadow (each (List (R .Denot)) (Array R n .own) xs us) → (x : ℕ) → x < length xs → length (getD xs x []) ≡ n
+  row-length : (xs : List (List (R .Denot))) (us : List Val) → shadow (each (List (R .Denot)) (Array R n .own) xs us)
+      → (x : ℕ) → x < length xs → length (getD xs x []) ≡ n
   row-length [] us s x l = absurd (omega arith)
   row-length (r ∷ xs) [] s x l = absurd s
   row-length (r ∷ xs) (u ∷ us) s zero l = s .0 .1 .0 .1

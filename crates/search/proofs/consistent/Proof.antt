@@ -1,20 +1,20 @@
--- `search::all_good` meets its contract. The loop's invariant: each member below p may stand in s.
+-- `search::consistent` meets its contract. The loop's invariant: each member below p is consistent in s.
 use mathlib.Core.Logic.{⊎-elim}
 use Prim.Native.Nat.{ℕ, _≤_, _<_, _-_}
 use native.Mathlib.Omega.{arith}
 use borrow.Author.Count.{below-more, below-none}
 use borrow.Author.Tests.{not-true, not-false}
 use Rattle.common.specs.Sets.{In}
-use Rattle.search.specs.Search.{Good}
+use Rattle.search.specs.Search.{ConsistentIn}
 use Rattle.common.specs.SetLaws.{in-lt}
 use Rattle.search.proofs.Decide.{refuted, shown}
-use Rattle.search.proofs.all_good.Statement.{statement}
-use Rattle.search.proofs.all_good.Tie as tie
-use Rattle.search.proofs.good.Reads as good-reads
+use Rattle.search.proofs.consistent.Statement.{statement}
+use Rattle.search.proofs.consistent.Tie as tie
+use Rattle.search.proofs.consistent_in.Reads as consistent-in-reads
 use Rattle.search.proofs.has.Reads as has-reads
 
 abbrev Inv-loop : tie.InvT-loop
-Inv-loop masks s count p₀ p = ((q : ℕ) → q < p → In q s → Good masks s q) × (p ≤ count)
+Inv-loop masks s count p₀ p = ((q : ℕ) → q < p → In q s → ConsistentIn masks s q) × (p ≤ count)
 
 abbrev μ-loop : tie.MeasureT-loop
 μ-loop masks s count p₀ p = count - p
@@ -25,13 +25,14 @@ loop-holds c = (below-none _, omega arith)
 has-requires : tie.Need-has-requires Inv-loop μ-loop
 has-requires c κs = omega arith
 
-good-requires : tie.Need-good-requires Inv-loop μ-loop
-good-requires c κs = omega arith
+consistent-in-requires : tie.Need-consistent-in-requires Inv-loop μ-loop
+consistent-in-requires c κs = omega arith
 
 returns : tie.Need-returns Inv-loop μ-loop
 returns c =
     let then1 = c .before .before in
-    refuted (λ f. c .before .good2 .ensures .no (not-true _ (c .if2 .taken)) (f _ (then1 .before .has .ensures .yes (then1 .if1 .taken))))
+    let member = then1 .before .has .ensures .yes (then1 .if1 .taken) in
+    refuted (λ f. c .before .consistent-in .ensures .no (not-true _ (c .if2 .taken)) (f _ member))
 
 add-p : tie.Need-add-p Inv-loop μ-loop
 add-p c = omega arith
@@ -52,7 +53,7 @@ loop-again c = (
 returns-2 : tie.Need-returns-2 Inv-loop μ-loop
 returns-2 c = shown (λ p i. c .before .loop .inv .0 p (omega (arith, in-lt _ i (c .before .before .pre .1))) i)
 
-pub all-good-spec : {M : Type 1} → statement M
-all-good-spec =
+pub consistent-spec : {M : Type 1} → statement M
+consistent-spec =
     tie.close
-    (tie.spec Inv-loop μ-loop loop-holds has-requires good-requires returns add-p loop-less loop-again returns-2)
+    (tie.spec Inv-loop μ-loop loop-holds has-requires consistent-in-requires returns add-p loop-less loop-again returns-2)
