@@ -3,6 +3,7 @@ use Prim.Native.Nat.{ℕ, _+_, _*_, _≤_}
 use mathlib.Core.Path.{_≡_}
 use mathlib.Core.List.{List, [], _∷_}
 use lib.ListN.{length}
+use Rattle.common.specs.Limits.{mostLines}
 use Rattle.octets.specs.Line.{textOf}
 use Rattle.policy.specs.declared.Record.{Record}
 use Rattle.policy.specs.Table.{head, user, edge, formula, demarcation, hierarchy, principal, exclusion, prerequisite, method}
@@ -21,10 +22,10 @@ groundLines r = ruleLines (hierarchy ∷ principal ∷ exclusion ∷ prerequisit
 abbrev pub start : Draft
 start = record { place = 0; lines = 0; sum = 0 }
 
--- there is room for the lines, and a bundle has no more
+-- there is room for the lines, and a bundle has no more, its end line with them
 pub record Room (buffer : List ℕ) (d : Draft) (ls : List (List ℕ)) : Type 0 where
   pub room : d .place + length (textOf ls) ≤ length buffer
-  pub few : d .lines + length ls ≤ 2000
+  pub few : d .lines + length ls ≤ mostLines + 1
   pub fair : d .sum ≤ 4096 * d .lines
 
 -- what the writer does: its answer, the buffer afterwards, and that the record is one of its type (so that the laws of round trips speak of it)

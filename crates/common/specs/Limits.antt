@@ -1,5 +1,5 @@
 -- Document 01's limits, and the rooms that follow from them. The code has the same numbers by the same names (`src/lib.rt`).
-use Prim.Native.Nat.{ℕ}
+use Prim.Native.Nat.{ℕ, _+_}
 
 -- "object count N (1 to 255)"; "Rising by object": at most one user line for each
 abbrev pub mostObjects : ℕ
@@ -50,3 +50,8 @@ privileges = 64
 -- "Height: .. at most 8"
 abbrev pub greatestHeight : ℕ
 greatestHeight = 8
+
+-- the lines of a bundle before its end line: the head, and as many of each kind as there may be
+abbrev pub mostLines : ℕ
+mostLines =
+    1 + mostUsers + mostEdges + mostFormulas + mostDemarcations + mostPairs + mostPrincipals + mostExclusions + mostPairs + mostMethods

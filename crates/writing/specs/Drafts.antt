@@ -4,14 +4,15 @@ use mathlib.Core.Path.{_≡_}
 use mathlib.Core.List.{List, [], _∷_, _++_}
 use lib.ListN.{length, take, drop}
 use Rattle.common.specs.Lists.{at}
+use Rattle.common.specs.Limits.{mostLines}
 use Rattle.octets.specs.Line.{framed, textOf, totals}
 use Rattle.octets.specs.Number.{inOctets}
 use Rattle.writing.specs.declared.Draft.{Draft}
 
--- so many lines of so many bytes each fit into the rest of the buffer, and a bundle has no more lines
+-- so many lines of so many bytes each fit into the rest of the buffer, and a bundle has no more lines, its end line with them
 pub record Fits (buffer : List ℕ) (d : Draft) (count size : ℕ) : Type 0 where
   pub room : d .place + count * size ≤ length buffer
-  pub few : d .lines + count ≤ 2000
+  pub few : d .lines + count ≤ mostLines + 1
   pub fair : d .sum ≤ 4096 * d .lines
 
 -- the lines ls were written: the buffer has them from the place on, and is as it was before and past them
