@@ -8,6 +8,7 @@ use lib.ListN.{length, drop, length-append}
 use Rattle.octets.specs.Line.{textOf, totals}
 use Rattle.policy.specs.declared.Record.{Record}
 use Rattle.policy.specs.Table.{Kind, head, user, edge, formula, demarcation, hierarchy, principal, exclusion, prerequisite, method, end, kinds}
+use Rattle.policy.specs.LinesBefore.{linesBefore}
 use Rattle.policy.specs.Loadable.{loadable}
 use Rattle.writing.specs.declared.Draft.{Draft}
 use Rattle.writing.specs.Drafts.{RoomFor, Put}
@@ -36,7 +37,7 @@ module _ (r : Record) where
       omega arith)
 
   module _ (loads : loadable r ≡ true) where
-    counts : length (graphLines r) + length (groundLines r) ≤ 1854
+    counts : length (graphLines r) + length (groundLines r) ≤ linesBefore end
     counts = let n = ap length parts ∙ length-append (graphLines r) (groundLines r) in omega (arith, rules-few r loads kinds)
 
     module _ {b : List ℕ} (fits : length (bundleOf r) ≤ length b) where

@@ -23,10 +23,10 @@ groundLines r = ruleLines (hierarchy ∷ principal ∷ exclusion ∷ prerequisit
 abbrev pub start : Draft
 start = record { offset = 0; lines = 0; sum = 0 }
 
--- there is room for the lines, and a bundle has no more
+-- there is room for the lines, and a bundle has no more, its end line with them
 pub record Room (buffer : List ℕ) (d : Draft) (ls : List (List ℕ)) : Type 0 where
   pub room : d .offset + length (textOf ls) ≤ length buffer
-  pub few : d .lines + length ls ≤ mostLines
+  pub few : d .lines + length ls ≤ mostLines + 1
   pub fair : d .sum ≤ greatestTotal * d .lines
 
 -- what the writer does: its answer, the buffer afterwards, and that the record is one of its type (so that the laws of round trips speak of it)

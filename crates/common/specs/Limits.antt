@@ -40,11 +40,6 @@ mostPairs = 380
 abbrev pub mostExclusions : ℕ
 mostExclusions = 190
 
--- a bundle's lines: the head, the lines of each kind, and the end
-abbrev pub mostLines : ℕ
-mostLines =
-    1 + mostUsers + mostEdges + mostFormulas + mostDemarcations + mostPairs + mostPrincipals + mostExclusions + mostPairs + mostMethods + 1
-
 -- "label 0 to 15"; "role r, 0 to 15"
 abbrev pub highestLabel : ℕ
 highestLabel = 15
@@ -59,3 +54,8 @@ privileges = 64
 -- "Height: .. at most 8"
 abbrev pub greatestHeight : ℕ
 greatestHeight = 8
+
+-- the lines of a bundle before its end line: the head, and as many of each kind as there may be
+abbrev pub mostLines : ℕ
+mostLines =
+    1 + mostUsers + mostEdges + mostFormulas + mostDemarcations + mostPairs + mostPrincipals + mostExclusions + mostPairs + mostMethods

@@ -17,16 +17,18 @@ use Rattle.closure.specs.Closure.{circular}
 use Rattle.octets.specs.Line.{Framed, refused, octets, kindOctet, restOf, frame, lines}
 use Rattle.octets.specs.LineLaws.{accepted, lines-none, lines-cons}
 use Rattle.policy.specs.declared.Record.{Record}
-use Rattle.policy.specs.Table.{Kind, head, user, edge, formula, demarcation, hierarchy, principal, exclusion, prerequisite, method, end, code, rows, appended, kindOf}
+use Rattle.policy.specs.Table.{hierarchy, prerequisite, end, code, rows, appended, kindOf}
 use Rattle.policy.specs.Rows.{inRange, rowCauses}
-use Rattle.reading.specs.declared.Next.the-variants.{Other, Refused}
+use Rattle.lines.specs.declared.Next.the-variants.{Other, Refused}
+use Rattle.lines.specs.NextLine.{nextOf, numberAt}
+use Rattle.lines.proofs.FoundLine.{FoundLine, kind-octet, refused-line, other-line}
 use Rattle.reading.specs.declared.Stage.{Stage}
 use Rattle.reading.specs.Body.{numbers}
 use Rattle.reading.specs.Loading.{Reading, misplaced, endWrong, lineRefusal, afterLine, notLoaded, atEnd, read, load}
-use Rattle.reading.specs.Stages.{nextOf, numberAt, reading, outcome, afterEnd, endedAt, Ready}
-use Rattle.reading.proofs.Lines.{misplaced-other, misplaced-after, well-placed, refused-place, read-not, read-on, Found, refused-line, other-line, body-length, stops-reading}
+use Rattle.reading.specs.Stages.{reading, loadedFrom, afterEnd, endedAt, Ready}
+use Rattle.reading.proofs.OneLine.{misplaced-other, misplaced-after, well-placed, refused-place, read-not, read-on, body-length, refused-reading}
 use Rattle.reading.proofs.Bodies.{numbers-are}
-use Rattle.reading.proofs.Going.{outcome-on}
+use Rattle.reading.proofs.Partway.{from-on}
 
 -- ---- an empty text
 
@@ -47,53 +49,39 @@ read-ended t (octets os ∷ ls) e =
     let r = refused-place t k os (misplaced-after t k os e) in
     (λ i. cond (eqb (r i) 0) (read (afterLine t k os) ls) (notLoaded (r i) (t .lines + 1)))
 
--- a known kind but the end is at most 0A
-code-most : (k : Kind) → code k ≢ 0xFF → code k < 0x0B
-code-most head h = omega arith
-code-most user h = omega arith
-code-most edge h = omega arith
-code-most formula h = omega arith
-code-most demarcation h = omega arith
-code-most hierarchy h = omega arith
-code-most principal h = omega arith
-code-most exclusion h = omega arith
-code-most prerequisite h = omega arith
-code-most method h = omega arith
-code-most end h = absurd (h refl)
+pub finish-refused : (text : List ℕ) (s : Stage) → s .cursor .number ≢ 0 → notLoaded (s .cursor .number) (s .cursor .lines) ≡ loadedFrom text s
+unfolding loadedFrom
+finish-refused text s h = rw (ne-eqb (s .cursor .number) 0 h)
 
-pub finish-refused : (text : List ℕ) (s : Stage) → s .at .number ≢ 0 → notLoaded (s .at .number) (s .at .lines) ≡ outcome text s
-unfolding outcome
-finish-refused text s h = rw (ne-eqb (s .at .number) 0 h)
+module _ (text : List ℕ) (s : Stage) (z : s .cursor .number ≡ 0) (r : Ready text end s) where
+  on : loadedFrom text s ≡ read (reading s) (lines (drop (s .cursor .offset) text))
+  on = from-on text s z
 
-module _ (text : List ℕ) (s : Stage) (most : ℕ) (z : s .at .number ≡ 0) (r : Ready text 0x0B most s) where
-  on : outcome text s ≡ read (reading s) (lines (drop (s .at .place) text))
-  on = outcome-on text s z
-
-  not-ended : s .at .last ≢ 0xFF
+  not-ended : s .cursor .last ≢ 0xFF
   not-ended e = let l = r .last in omega arith
 
   -- there is no end line
-  pub finish-missing : length text ≤ s .at .place → notLoaded wrongEnd (s .at .lines + 1) ≡ outcome text s
+  pub finish-missing : length text ≤ s .cursor .offset → notLoaded wrongEnd (s .cursor .lines + 1) ≡ loadedFrom text s
   unfolding read atEnd
   finish-missing l =
       sym (on ∙ ap (λ (u : List ℕ). read (reading s) (lines u)) (drop-of-length-le text l) ∙ ap (read (reading s)) lines-none
-      ∙ rw (ne-eqb (s .at .last) 0xFF not-ended))
+      ∙ rw (ne-eqb (s .cursor .last) 0xFF not-ended))
 
   -- a line of another kind
-  pub finish-other : s .at .place < length text → nextOf text (s .at .place) 0xFF 9 ≡ Other → notLoaded wrongKind (s .at .lines + 1) ≡ outcome text s
+  pub finish-other : s .cursor .offset < length text → nextOf text (s .cursor .offset) 0xFF 9 ≡ Other → notLoaded wrongKind (s .cursor .lines + 1) ≡ loadedFrom text s
   finish-other l e =
-      let (os, f, h) = other-line text (s .at .place) 0xFF 9 l e in
+      let (os, f, h) = other-line text (s .cursor .offset) 0xFF 9 l e in
       let k = kindOf (kindOctet os) in
-      sym (on ∙ read-not (reading s) text (s .at .place) l f k refl (refused-place (reading s) k os (wrong os f h (ℕ-discrete (kindOctet os) (code k)))) (λ q. omega arith))
+      sym (on ∙ read-not (reading s) text (s .cursor .offset) l f k refl (refused-place (reading s) k os (wrong os f h (ℕ-discrete (kindOctet os) (code k)))) (λ q. omega arith))
     where
-      wrong : (os : List ℕ) → frame (drop (s .at .place) text) ≡ octets os → kindOctet os ≢ 0xFF → Dec (kindOctet os ≡ code (kindOf (kindOctet os))) → misplaced (reading s) (kindOf (kindOctet os)) os ≡ true
-      wrong os f h (yes q) = r .others os f (let c = code-most (kindOf (kindOctet os)) (λ u. h (q ∙ u)) in omega arith)
+      wrong : (os : List ℕ) → frame (drop (s .cursor .offset) text) ≡ octets os → kindOctet os ≢ 0xFF → Dec (kindOctet os ≡ code (kindOf (kindOctet os))) → misplaced (reading s) (kindOf (kindOctet os)) os ≡ true
+      wrong os f h (yes q) = r .others os f (let c = kind-octet _ f in omega arith)
       wrong os f h (no q) = misplaced-other (reading s) (kindOf (kindOctet os)) os q
 
-  pub finish-stops : (n : ℕ) → nextOf text (s .at .place) 0xFF 9 ≡ Refused n → notLoaded n (s .at .lines + 1) ≡ outcome text s
-  finish-stops n e = sym (on ∙ stops-reading (reading s) text (s .at .place) end 9 n refl (refused-line text (s .at .place) 0xFF 9 e) .1)
+  pub finish-unread : (n : ℕ) → nextOf text (s .cursor .offset) 0xFF 9 ≡ Refused n → notLoaded n (s .cursor .lines + 1) ≡ loadedFrom text s
+  finish-unread n e = sym (on ∙ refused-reading (reading s) text (s .cursor .offset) end 9 n refl (refused-line text (s .cursor .offset) 0xFF 9 e) .1)
 
-  module _ {next sum : ℕ} (f : Found text (s .at .place) 0xFF 9 next sum) where
+  module _ {next sum : ℕ} (f : FoundLine text (s .cursor .offset) 0xFF 9 next sum) where
     known : kindOf (kindOctet (f .os)) ≡ end
     known = ap kindOf (f .ours)
 
@@ -105,54 +93,54 @@ module _ (text : List ℕ) (s : Stage) (most : ℕ) (z : s .at .number ≡ 0) (r
         let l = r .last in
         well-placed (reading s) end (f .os) (f .ours) not-ended refl (r .begun .some) (omega arith) (omega arith)
 
-    numbers-end : numbers end (f .os) ≡ numberAt (drop (s .at .place) text) 2 2 ∷ numberAt (drop (s .at .place) text) 4 4 ∷ []
-    numbers-end = numbers-are (drop (s .at .place) text) (f .os) 6 (f .framed) (f .sized) end refl
+    numbers-end : numbers end (f .os) ≡ numberAt (drop (s .cursor .offset) text) 2 2 ∷ numberAt (drop (s .cursor .offset) text) 4 4 ∷ []
+    numbers-end = numbers-are (drop (s .cursor .offset) text) (f .os) 6 (f .framed) (f .sized) end refl
 
     end-refusal : lineRefusal (reading s) end (f .os)
-        ≡ cond (not (eqb (numberAt (drop (s .at .place) text) 2 2) (s .at .lines) && eqb (numberAt (drop (s .at .place) text) 4 4) (s .at .sum))) wrongEnd 0
+        ≡ cond (not (eqb (numberAt (drop (s .cursor .offset) text) 2 2) (s .cursor .lines) && eqb (numberAt (drop (s .cursor .offset) text) 4 4) (s .cursor .sum))) wrongEnd 0
     unfolding lineRefusal endWrong rowCauses inRange
-    end-refusal = rw placed (λ i. cond (not (eqb (at (numbers-end i) 0) (s .at .lines) && eqb (at (numbers-end i) 1) (s .at .sum))) wrongEnd 0)
+    end-refusal = rw placed (λ i. cond (not (eqb (at (numbers-end i) 0) (s .cursor .lines) && eqb (at (numbers-end i) 1) (s .cursor .sum))) wrongEnd 0)
 
-    pub finish-count : {n : ℕ} → n ≡ numberAt (drop (s .at .place) text) 2 2 → n ≢ s .at .lines → notLoaded wrongEnd (s .at .lines + 1) ≡ outcome text s
+    pub finish-count : {n : ℕ} → n ≡ numberAt (drop (s .cursor .offset) text) 2 2 → n ≢ s .cursor .lines → notLoaded wrongEnd (s .cursor .lines + 1) ≡ loadedFrom text s
     finish-count {n} e h =
-        sym (on ∙ read-not (reading s) text (s .at .place) (f .within) (f .framed) end known
-        (end-refusal ∙ rw (ne-eqb (numberAt (drop (s .at .place) text) 2 2) (s .at .lines) (λ q. h (e ∙ q)))) (λ q. omega arith))
+        sym (on ∙ read-not (reading s) text (s .cursor .offset) (f .within) (f .framed) end known
+        (end-refusal ∙ rw (ne-eqb (numberAt (drop (s .cursor .offset) text) 2 2) (s .cursor .lines) (λ q. h (e ∙ q)))) (λ q. omega arith))
 
-    pub finish-sum : {n : ℕ} → n ≡ numberAt (drop (s .at .place) text) 4 4 → n ≢ s .at .sum → notLoaded wrongEnd (s .at .lines + 1) ≡ outcome text s
+    pub finish-sum : {n : ℕ} → n ≡ numberAt (drop (s .cursor .offset) text) 4 4 → n ≢ s .cursor .sum → notLoaded wrongEnd (s .cursor .lines + 1) ≡ loadedFrom text s
     finish-sum {n} e h =
-        sym (on ∙ read-not (reading s) text (s .at .place) (f .within) (f .framed) end known
-        (end-refusal ∙ rw (ne-eqb (numberAt (drop (s .at .place) text) 4 4) (s .at .sum) (λ q. h (e ∙ q)), and-false (eqb (numberAt (drop (s .at .place) text) 2 2) (s .at .lines)))) (λ q. omega arith))
+        sym (on ∙ read-not (reading s) text (s .cursor .offset) (f .within) (f .framed) end known
+        (end-refusal ∙ rw (ne-eqb (numberAt (drop (s .cursor .offset) text) 4 4) (s .cursor .sum) (λ q. h (e ∙ q)), and-false (eqb (numberAt (drop (s .cursor .offset) text) 2 2) (s .cursor .lines)))) (λ q. omega arith))
 
-    pub finish-ended : {n m : ℕ} → n ≡ numberAt (drop (s .at .place) text) 2 2 → n ≡ s .at .lines → m ≡ numberAt (drop (s .at .place) text) 4 4 → m ≡ s .at .sum
-        → endedAt text next (s .at .lines + 1) (s .rules) ≡ outcome text s
+    pub finish-ended : {n m : ℕ} → n ≡ numberAt (drop (s .cursor .offset) text) 2 2 → n ≡ s .cursor .lines → m ≡ numberAt (drop (s .cursor .offset) text) 4 4 → m ≡ s .cursor .sum
+        → endedAt text next (s .cursor .lines + 1) (s .rules) ≡ loadedFrom text s
     unfolding endedAt afterLine appended
     finish-ended e e′ g g′ =
         sym (on
-        ∙ read-on (reading s) text (s .at .place) (f .within) (f .framed) end known
-        (end-refusal ∙ rw (eq-eqb (numberAt (drop (s .at .place) text) 2 2) (s .at .lines) (sym e ∙ e′), eq-eqb (numberAt (drop (s .at .place) text) 4 4) (s .at .sum) (sym g ∙ g′)))
+        ∙ read-on (reading s) text (s .cursor .offset) (f .within) (f .framed) end known
+        (end-refusal ∙ rw (eq-eqb (numberAt (drop (s .cursor .offset) text) 2 2) (s .cursor .lines) (sym e ∙ e′), eq-eqb (numberAt (drop (s .cursor .offset) text) 4 4) (s .cursor .sum) (sym g ∙ g′)))
         ∙ read-ended (afterLine (reading s) end (f .os)) _ refl
-        ∙ ap (λ (n : ℕ). afterEnd (s .at .lines + 1) (s .rules) (lines (drop n text))) (sym (f .follows)))
+        ∙ ap (λ (n : ℕ). afterEnd (s .cursor .lines + 1) (s .rules) (lines (drop n text))) (sym (f .follows)))
 
 -- ---- after the end line
 
-module _ (text : List ℕ) (place n : ℕ) (r : Record) where
-  pub ended-refused : place < length text → {k : ℕ} → frame (drop place text) ≡ refused k → notLoaded k (n + 1) ≡ endedAt text place n r
+module _ (text : List ℕ) (offset n : ℕ) (r : Record) where
+  pub ended-refused : offset < length text → {k : ℕ} → frame (drop offset text) ≡ refused k → notLoaded k (n + 1) ≡ endedAt text offset n r
   unfolding endedAt
   ended-refused l e =
-      sym (ap (afterEnd n r) (lines-cons (drop place text) (omega (arith, length-drop place text)) ∙ ap (λ (f : Framed). f ∷ lines (restOf (drop place text))) e))
+      sym (ap (afterEnd n r) (lines-cons (drop offset text) (omega (arith, length-drop offset text)) ∙ ap (λ (f : Framed). f ∷ lines (restOf (drop offset text))) e))
 
-  pub ended-more : place < length text → {os : List ℕ} → frame (drop place text) ≡ octets os → notLoaded wrongKind (n + 1) ≡ endedAt text place n r
+  pub ended-more : offset < length text → {os : List ℕ} → frame (drop offset text) ≡ octets os → notLoaded wrongKind (n + 1) ≡ endedAt text offset n r
   unfolding endedAt
   ended-more l e =
-      sym (ap (afterEnd n r) (lines-cons (drop place text) (omega (arith, length-drop place text)) ∙ ap (λ (f : Framed). f ∷ lines (restOf (drop place text))) e))
+      sym (ap (afterEnd n r) (lines-cons (drop offset text) (omega (arith, length-drop offset text)) ∙ ap (λ (f : Framed). f ∷ lines (restOf (drop offset text))) e))
 
-  ended-here : length text ≤ place → endedAt text place n r ≡ afterEnd n r []
+  ended-here : length text ≤ offset → endedAt text offset n r ≡ afterEnd n r []
   unfolding endedAt
   ended-here l = ap (afterEnd n r) (ap lines (drop-of-length-le text l) ∙ lines-none)
 
-  module _ (l : length text ≤ place) {b : Bool} (e : b ≡ (circular (rows hierarchy r) || circular (rows prerequisite r))) where
-    pub ended-circle : b ≡ true → notLoaded refusals.circle n ≡ endedAt text place n r
+  module _ (l : length text ≤ offset) {b : Bool} (e : b ≡ (circular (rows hierarchy r) || circular (rows prerequisite r))) where
+    pub ended-circle : b ≡ true → notLoaded refusals.circle n ≡ endedAt text offset n r
     ended-circle h = sym (ended-here l ∙ rw (sym e ∙ h))
 
-    pub ended-well : b ≡ false → record { number = 0; line = 0; rules = r } ≡ endedAt text place n r
+    pub ended-well : b ≡ false → record { number = 0; line = 0; rules = r } ≡ endedAt text offset n r
     ended-well h = sym (ended-here l ∙ rw (sym e ∙ h))

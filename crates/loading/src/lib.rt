@@ -1,61 +1,20 @@
-// Loading a bundle: the lines of the kinds 06 to 0A, the end line, and `load`.
+// Loading a bundle: the lines of every kind, one kind after another, and the end line.
 
 ghost use mathlib.Core.Path.{_≡_};
-ghost use Prim.Native.Nat.{_+_, _≤_, _<_};
-ghost use Rattle.policy.specs.Table.{hierarchy, principal, exclusion, prerequisite, method};
+ghost use Prim.Native.Nat.{_+_, _≤_};
+ghost use Rattle.common.specs.Limits.{mostLines};
+ghost use Rattle.policy.specs.Table.{end};
 ghost use Rattle.reading.specs.Loading.{notLoaded};
 ghost use Rattle.reading.specs.Loading as loading;
-ghost use Rattle.reading.specs.Stages.{outcome, endedAt, CirclesReady, Ready, Reads};
+ghost use Rattle.reading.specs.Stages.{loadedFrom, endedAt, CirclesReady, Ready};
+use lines::Next;
+use lines::next_line;
+use lines::number_at;
 use octets::Line;
 use policy::Record;
 use reading::Loaded;
-use reading::Next;
 use reading::Stage;
-use reading::next_line;
-use reading::number_at;
 use reading::read_kind;
-
-// Kind 06.
-fn read_hierarchy(text: &[u8], from: Stage) -> Stage
-    requires { ⌜ (from .at .number ≡ 0 → Ready (now text) 0x06 852 from) ⌝ }
-    ensures { λ r. ⌜ Reads (now (text .entry)) hierarchy 852 from r ⌝ }
-{
-    read_kind(text, 0x06, 5, from)
-}
-
-// Kind 07.
-fn read_principals(text: &[u8], from: Stage) -> Stage
-    requires { ⌜ (from .at .number ≡ 0 → Ready (now text) 0x07 1232 from) ⌝ }
-    ensures { λ r. ⌜ Reads (now (text .entry)) principal 1232 from r ⌝ }
-{
-    read_kind(text, 0x07, 5, from)
-}
-
-// Kind 08.
-fn read_exclusions(text: &[u8], from: Stage) -> Stage
-    requires { ⌜ (from .at .number ≡ 0 → Ready (now text) 0x08 1252 from) ⌝ }
-    ensures { λ r. ⌜ Reads (now (text .entry)) exclusion 1252 from r ⌝ }
-{
-    read_kind(text, 0x08, 5, from)
-}
-
-// Kind 09.
-fn read_prerequisites(text: &[u8], from: Stage) -> Stage
-    requires { ⌜ (from .at .number ≡ 0 → Ready (now text) 0x09 1442 from) ⌝ }
-    ensures { λ r. ⌜ Reads (now (text .entry)) prerequisite 1442 from r ⌝ }
-{
-    read_kind(text, 0x09, 5, from)
-}
-
-// Kind 0A.
-fn read_methods(text: &[u8], from: Stage) -> Stage
-    requires { ⌜ (from .at .number ≡ 0 → Ready (now text) 0x0A 1822 from) ⌝ }
-    ensures { λ r. ⌜ Reads (now (text .entry)) method 1822 from r ⌝ }
-{
-    read_kind(text, 0x0A, 12, from)
-}
-
-// ---- the end line, and loading
 
 // Refused: the number, the line, and the blank record.
 fn not_loaded(number: u8, line: usize) -> Loaded
@@ -70,12 +29,12 @@ fn not_loaded(number: u8, line: usize) -> Loaded
 }
 
 // After the end line: nothing more may stand in the text, and neither the hierarchy nor the prerequisites may hold a circle.
-fn ended(text: &[u8], place: usize, lines: usize, rules: Record) -> Loaded
-    requires { ⌜ (lines ≤ 2000) × CirclesReady rules ⌝ }
-    ensures { λ r. ⌜ r ≡ endedAt (now (text .entry)) place lines rules ⌝ }
+fn ended(text: &[u8], offset: usize, lines: usize, rules: Record) -> Loaded
+    requires { ⌜ (lines ≤ mostLines + 1) × CirclesReady rules ⌝ }
+    ensures { λ r. ⌜ r ≡ endedAt (now (text .entry)) offset lines rules ⌝ }
 {
-    if place < text.len() {
-        match octets::read_line(text, place) {
+    if offset < text.len() {
+        match octets::read_line(text, offset) {
             Line::Refused(number) => {
                 return not_loaded(number, lines + 1);
             }
@@ -100,31 +59,31 @@ fn ended(text: &[u8], place: usize, lines: usize, rules: Record) -> Loaded
 
 // The end line, where there is one.
 fn finish(text: &[u8], from: Stage) -> Loaded
-    requires { ⌜ (from .at .number ≡ 0 → Ready (now text) 0x0B 1854 from) ⌝ }
-    ensures { λ r. ⌜ r ≡ outcome (now (text .entry)) from ⌝ }
+    requires { ⌜ (from .cursor .number ≡ 0 → Ready (now text) end from) ⌝ }
+    ensures { λ r. ⌜ r ≡ loadedFrom (now (text .entry)) from ⌝ }
 {
-    let at = from.at;
+    let cursor = from.cursor;
     let rules = from.rules;
-    if at.number != 0 {
-        return not_loaded(at.number, at.lines);
+    if cursor.number != 0 {
+        return not_loaded(cursor.number, cursor.lines);
     }
-    let place = at.place;
-    if text.len() <= place {
-        return not_loaded(common::WRONG_END, at.lines + 1);
+    let offset = cursor.offset;
+    if text.len() <= offset {
+        return not_loaded(common::WRONG_END, cursor.lines + 1);
     }
-    match next_line(text, place, 0xFF, 9) {
-        Next::Other => not_loaded(common::WRONG_KIND, at.lines + 1),
-        Next::Refused(number) => not_loaded(number, at.lines + 1),
+    match next_line(text, offset, 0xFF, 9) {
+        Next::Other => not_loaded(common::WRONG_KIND, cursor.lines + 1),
+        Next::Refused(number) => not_loaded(number, cursor.lines + 1),
         Next::Body { next, total: _ } => {
-            let count = number_at(text, place, 2, 2);
-            let sum = number_at(text, place, 4, 4);
-            if count != (at.lines as u64) {
-                return not_loaded(common::WRONG_END, at.lines + 1);
+            let count = number_at(text, offset, 2, 2);
+            let sum = number_at(text, offset, 4, 4);
+            if count != (cursor.lines as u64) {
+                return not_loaded(common::WRONG_END, cursor.lines + 1);
             }
-            if sum != (at.sum as u64) {
-                return not_loaded(common::WRONG_END, at.lines + 1);
+            if sum != (cursor.sum as u64) {
+                return not_loaded(common::WRONG_END, cursor.lines + 1);
             }
-            ended(text, next, at.lines + 1, rules)
+            ended(text, next, cursor.lines + 1, rules)
         }
     }
 }
@@ -137,14 +96,14 @@ pub fn load(text: &[u8]) -> Loaded
         return not_loaded(common::WRONG_END, 1);
     }
     let head = reading::read_head(text);
-    let users = reading::read_users(text, head);
-    let edges = reading::read_edges(text, users);
-    let formulas = reading::read_formulas(text, edges);
-    let demarcations = reading::read_demarcations(text, formulas);
-    let hierarchy = read_hierarchy(text, demarcations);
-    let principals = read_principals(text, hierarchy);
-    let exclusions = read_exclusions(text, principals);
-    let prerequisites = read_prerequisites(text, exclusions);
-    let methods = read_methods(text, prerequisites);
+    let users = read_kind(text, 0x02, 6, head);
+    let edges = read_kind(text, 0x03, 6, users);
+    let formulas = read_kind(text, 0x04, 6, edges);
+    let demarcations = read_kind(text, 0x05, 11, formulas);
+    let hierarchy = read_kind(text, 0x06, 5, demarcations);
+    let principals = read_kind(text, 0x07, 5, hierarchy);
+    let exclusions = read_kind(text, 0x08, 5, principals);
+    let prerequisites = read_kind(text, 0x09, 5, exclusions);
+    let methods = read_kind(text, 0x0A, 12, prerequisites);
     finish(text, methods)
 }

@@ -1,4 +1,5 @@
 pub mod Table
+pub mod LinesBefore
 pub mod Height
 pub mod Rows
 pub mod Loadable

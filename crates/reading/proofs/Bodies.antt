@@ -12,7 +12,7 @@ use Rattle.octets.specs.Answers.{octetAt}
 use Rattle.octets.specs.Number.{number}
 use Rattle.policy.specs.Table.{Kind}
 use Rattle.reading.specs.Body.{widths, values, numbers}
-use Rattle.reading.specs.Stages.{numberAt}
+use Rattle.lines.specs.NextLine.{numberAt}
 
 table-same : (n : ℕ) (f g : ℕ → ℕ) → ((i : ℕ) → i < n → f i ≡ g i) → table n f ≡ table n g
 table-same zero f g h = refl

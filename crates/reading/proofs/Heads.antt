@@ -20,18 +20,21 @@ use Rattle.rows.specs.Checks.{causes}
 use Rattle.policy.specs.Rows.{inRange, rowCauses, rowRefusal}
 use Rattle.policy.specs.TableLaws.{sized-blank, sized-appended, count-other}
 use Rattle.policy.specs.GrowthLaws.{blank-empty, tables-first}
-use Rattle.reading.specs.declared.Next.the-variants.{Other, Refused}
-use Rattle.reading.specs.declared.Cursor.{Cursor}
+use Rattle.lines.specs.declared.Next.the-variants.{Other, Refused}
+use Rattle.lines.specs.declared.Cursor.{Cursor}
 use Rattle.reading.specs.declared.Stage.{Stage}
 use Rattle.reading.specs.Body.{numbers}
 use Rattle.reading.specs.Loading.{misplaced, lineRefusal, afterLine, notLoaded, read, load}
-use Rattle.reading.specs.Stages.{nextOf, reading, refusedAt, movedPast, Starts}
-use Rattle.reading.proofs.Lines.{misplaced-below, misplaced-first, misplaced-head, placed-first, refused-place, refused-row, read-not, read-on, Found, sum-most, refused-line, other-line, body-length, stops-reading}
-use Rattle.reading.proofs.Going.{stage, outcome-on, outcome-stopped}
+use Rattle.lines.specs.NextLine.{nextOf}
+use Rattle.lines.specs.Judging.{movedPast}
+use Rattle.lines.proofs.FoundLine.{FoundLine, sum-most, refused-line, other-line}
+use Rattle.reading.specs.Stages.{reading, refusedAt, Starts}
+use Rattle.reading.proofs.OneLine.{misplaced-below, misplaced-first, misplaced-head, placed-first, refused-place, refused-row, read-not, read-on, body-length, refused-reading}
+use Rattle.reading.proofs.Partway.{stage, from-on, from-refused}
 
 -- the cursor at the top
 abbrev pub top : Cursor
-top = record { number = 0; place = 0; lines = 0; last = 0; sum = 0 }
+top = record { number = 0; offset = 0; lines = 0; last = 0; sum = 0 }
 
 from-top : (text : List ℕ) → load text ≡ read (reading (stage top blank)) (lines (drop 0 text))
 unfolding load
@@ -39,11 +42,11 @@ from-top text = refl
 
 module _ (text : List ℕ) where
   starts-not : (n : ℕ) (r : Record) → n ≢ 0 → read (reading (stage top blank)) (lines (drop 0 text)) ≡ notLoaded n 1 → Starts text (refusedAt top n r)
-  starts-not n r h q = record { same = outcome-stopped text top n r h ∙ sym (from-top text ∙ q); ready = λ z. absurd (h z) }
+  starts-not n r h q = record { same = from-refused text top n r h ∙ sym (from-top text ∙ q); ready = λ z. absurd (h z) }
 
-  pub head-stops : (n : ℕ) (r : Record) → nextOf text 0 0x01 5 ≡ Refused n → Starts text (refusedAt top n r)
-  head-stops n r e =
-      let (h, q) = stops-reading (reading (stage top blank)) text 0 head 5 n refl (refused-line text 0 0x01 5 e) in
+  pub head-unread : (n : ℕ) (r : Record) → nextOf text 0 0x01 5 ≡ Refused n → Starts text (refusedAt top n r)
+  head-unread n r e =
+      let (h, q) = refused-reading (reading (stage top blank)) text 0 head 5 n refl (refused-line text 0 0x01 5 e) in
       starts-not n r h q
 
   pub head-other : (r : Record) → 0 < length text → nextOf text 0 0x01 5 ≡ Other → Starts text (refusedAt top wrongKind r)
@@ -53,7 +56,7 @@ module _ (text : List ℕ) where
       let k = kindOf (kindOctet os) in
       starts-not wrongKind r (λ z. omega arith) (read-not t text 0 l f k refl (refused-place t k os (misplaced-first t k os refl h)) (λ z. omega arith))
 
-  module _ {next sum : ℕ} (f : Found text 0 0x01 5 next sum) (version objects : ℕ) (v : numbers head (f .os) ≡ version ∷ objects ∷ []) where
+  module _ {next sum : ℕ} (f : FoundLine text 0 0x01 5 next sum) (version objects : ℕ) (v : numbers head (f .os) ≡ version ∷ objects ∷ []) where
     sizes : length (bodyOf (f .os)) ≡ 2
     sizes = let h = accepted (f .framed) .long in let u = body-length (f .os) (omega arith) in let z = f .sized in omega arith
 
@@ -71,7 +74,7 @@ module _ (text : List ℕ) where
     unfolding afterLine rowRefusal rowCauses inRange
     head-taken e =
         record {
-          same = outcome-on text s refl ∙ sym (from-top text ∙ moved);
+          same = from-on text s refl ∙ sym (from-top text ∙ moved);
           ready = λ z. record {
             begun = record { some = omega arith; few = omega arith; sum = (let m = sum-most _ (f .framed) in let d = f .summed in omega arith); sized = sized-appended head w sized-blank; loads = tables-first w (passes ∙ sym e) };
             last = omega arith;

@@ -1,7 +1,6 @@
-pub mod Nexts
-pub mod Numbers
-pub mod Lines
-pub mod Going
+pub mod OneLine
 pub mod Bodies
-pub mod Readers
-pub mod Heads
+pub mod Partway
+mod AppendedAt
+mod TakenLines
+mod Heads

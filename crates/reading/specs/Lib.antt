@@ -1,5 +1,4 @@
 pub mod Body
-pub mod Kinds
 pub mod Loading
 pub mod LoadingLaws
 pub mod Stages

@@ -20,7 +20,7 @@ greatestTotal = 255 * (longestBody + 3)
 -- the rest of the buffer has room for so many lines of so many bytes each, and a bundle has no more lines
 pub record RoomFor (buffer : List ℕ) (d : Draft) (count size : ℕ) : Type 0 where
   pub room : d .offset + count * size ≤ length buffer
-  pub few : d .lines + count ≤ mostLines
+  pub few : d .lines + count ≤ mostLines + 1
   pub fair : d .sum ≤ greatestTotal * d .lines
 
 -- the lines ls were written: the buffer has them from the offset on, and is as it was before and past them

@@ -3,8 +3,9 @@ use mathlib.Core.Path.{sym, _∙_}
 use native.Mathlib.Omega.{arith}
 use borrow.Author.Needs.{needs}
 use Rattle.reading.specs.Stages.{Ready}
-use Rattle.reading.proofs.Lines.{Found, found-line}
-use Rattle.loading.proofs.Ends.{finish-refused, finish-missing, finish-other, finish-stops, finish-count, finish-sum, finish-ended}
+use Rattle.policy.specs.Table.{end}
+use Rattle.lines.proofs.FoundLine.{FoundLine, found-line}
+use Rattle.loading.proofs.Ends.{finish-refused, finish-missing, finish-other, finish-unread, finish-count, finish-sum, finish-ended}
 use Rattle.loading.proofs.finish.Statement.{statement}
 use Rattle.loading.proofs.finish.Tie as tie
 
@@ -12,11 +13,11 @@ not-loaded-requires : tie.Need-not-loaded-requires
 not-loaded-requires c κs = search needs
 
 -- what the stage is ready for, past the test of its number
-ready : (e : tie.Else1) → let a = e .before .before .before .before .before .args in Ready (a .text .now) 0x0B 1854 (a .from)
+ready : (e : tie.Else1) → let a = e .before .before .before .before .before .args in Ready (a .text .now) end (a .from)
 ready e = e .before .before .before .before .before .pre (e .if1 .left)
 
 -- the end line that was found
-found : (n : tie.After-next) → let a = n .before .before .before .before .before .before .before .before .before .args in Found (a .text .now) (a .from .at .place) 0xFF 9 (n .next .given .0 .0) (n .next .given .0 .1 .0)
+found : (n : tie.After-next) → let a = n .before .before .before .before .before .before .before .before .before .args in FoundLine (a .text .now) (a .from .cursor .offset) 0xFF 9 (n .next .given .0 .0) (n .next .given .0 .1 .0)
 found n = found-line _ _ 0xFF 9 (sym (n .before .before .next-line .ensures) ∙ n .next .given .1)
 
 returns : tie.Need-returns
@@ -31,7 +32,7 @@ not-loaded-requires-2 c κs = search needs
 returns-2 : tie.Need-returns-2
 returns-2 c =
     let e = c .before .before .before in
-    c .not-loaded2 .ensures ∙ finish-missing _ _ 1854 (e .if1 .left) (ready e) (c .before .before .if2 .taken)
+    c .not-loaded2 .ensures ∙ finish-missing _ _ (e .if1 .left) (ready e) (c .before .before .if2 .taken)
 
 next-line-requires : tie.Need-next-line-requires
 next-line-requires c κs = search needs
@@ -72,7 +73,7 @@ not-loaded-requires-5 c κs = search needs
 returns-3 : tie.Need-returns-3
 returns-3 c =
     let e = c .before .before .before .before .before .before .before .before .before .before in
-    c .not-loaded5 .ensures ∙ finish-count _ _ 1854 (e .if1 .left) (ready e) (found (c .before .before .before .before .before .before)) (c .before .before .before .before .number-at .ensures) (c .before .before .if3 .taken)
+    c .not-loaded5 .ensures ∙ finish-count _ _ (e .if1 .left) (ready e) (found (c .before .before .before .before .before .before)) (c .before .before .before .before .number-at .ensures) (c .before .before .if3 .taken)
 
 add-not-loaded-5 : tie.Need-add-not-loaded-5
 add-not-loaded-5 c = let b = ready (c .before .before .before .before .before .before .before .before .before .before) .begun .few in omega arith
@@ -83,7 +84,7 @@ not-loaded-requires-6 c κs = search needs
 returns-4 : tie.Need-returns-4
 returns-4 c =
     let e = c .before .before .before .before .before .before .before .before .before .before .before in
-    c .not-loaded6 .ensures ∙ finish-sum _ _ 1854 (e .if1 .left) (ready e) (found (c .before .before .before .before .before .before .before)) (c .before .before .before .before .number-at2 .ensures) (c .before .before .if4 .taken)
+    c .not-loaded6 .ensures ∙ finish-sum _ _ (e .if1 .left) (ready e) (found (c .before .before .before .before .before .before .before)) (c .before .before .before .before .number-at2 .ensures) (c .before .before .if4 .taken)
 
 add-ended : tie.Need-add-ended
 add-ended c = let b = ready (c .before .before .before .before .before .before .before .before .before .before) .begun .few in omega arith
@@ -94,17 +95,17 @@ ended-requires c κs = let b = ready (c .before .before .before .before .before 
 returns-5 : tie.Need-returns-5
 returns-5 c =
     let e = c .before .before .before .before .before .before in
-    c .not-loaded3 .ensures ∙ finish-other _ _ 1854 (e .if1 .left) (ready e) (c .before .before .before .before .before .if2 .left) (sym (c .before .before .before .before .next-line .ensures) ∙ c .before .before .enum-told .given .1)
+    c .not-loaded3 .ensures ∙ finish-other _ _ (e .if1 .left) (ready e) (c .before .before .before .before .before .if2 .left) (sym (c .before .before .before .before .next-line .ensures) ∙ c .before .before .enum-told .given .1)
 
 returns-6 : tie.Need-returns-6
 returns-6 c =
     let e = c .before .before .before .before .before .before .before in
-    c .not-loaded4 .ensures ∙ finish-stops _ _ 1854 (e .if1 .left) (ready e) _ (sym (c .before .before .before .before .before .next-line .ensures) ∙ c .before .before .before .number .given .1)
+    c .not-loaded4 .ensures ∙ finish-unread _ _ (e .if1 .left) (ready e) _ (sym (c .before .before .before .before .before .next-line .ensures) ∙ c .before .before .before .number .given .1)
 
 returns-7 : tie.Need-returns-7
 returns-7 c =
     let e = c .before .before .before .before .before .before .before .before .before .before .before in
-    c .ended .ensures ∙ finish-ended _ _ 1854 (e .if1 .left) (ready e) (found (c .before .before .before .before .before .before .before)) (c .before .before .before .before .before .number-at .ensures) (c .before .before .before .if3 .left) (c .before .before .before .before .number-at2 .ensures) (c .before .before .if4 .left)
+    c .ended .ensures ∙ finish-ended _ _ (e .if1 .left) (ready e) (found (c .before .before .before .before .before .before .before)) (c .before .before .before .before .before .number-at .ensures) (c .before .before .before .if3 .left) (c .before .before .before .before .number-at2 .ensures) (c .before .before .if4 .left)
 
 pub finish-spec : {M : Type 1} → statement M
 finish-spec =

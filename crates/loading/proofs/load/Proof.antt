@@ -1,4 +1,4 @@
--- `load` meets its contract: every reader keeps the outcome.
+-- `load` meets its contract: from every stage the same is loaded.
 use mathlib.Core.Path.{_∙_}
 use native.Mathlib.Omega.{arith}
 use borrow.Author.Needs.{needs}
@@ -15,48 +15,48 @@ returns c = c .not-loaded .ensures ∙ load-empty _ (c .before .if1 .taken)
 read-head-requires : tie.Need-read-head-requires
 read-head-requires c κs = omega arith
 
-read-users-requires : tie.Need-read-users-requires
-read-users-requires c κs = c .read-head .ensures .ready
+read-kind-requires : tie.Need-read-kind-requires
+read-kind-requires c κs = (search needs, c .read-head .ensures .ready)
 
-read-edges-requires : tie.Need-read-edges-requires
-read-edges-requires c κs = c .read-users .ensures .ready
+read-kind-requires-2 : tie.Need-read-kind-requires-2
+read-kind-requires-2 c κs = (search needs, c .read-kind .ensures .ready)
 
-read-formulas-requires : tie.Need-read-formulas-requires
-read-formulas-requires c κs = c .read-edges .ensures .ready
+read-kind-requires-3 : tie.Need-read-kind-requires-3
+read-kind-requires-3 c κs = (search needs, c .read-kind2 .ensures .ready)
 
-read-demarcations-requires : tie.Need-read-demarcations-requires
-read-demarcations-requires c κs = c .read-formulas .ensures .ready
+read-kind-requires-4 : tie.Need-read-kind-requires-4
+read-kind-requires-4 c κs = (search needs, c .read-kind3 .ensures .ready)
 
-read-hierarchy-requires : tie.Need-read-hierarchy-requires
-read-hierarchy-requires c κs = c .read-demarcations .ensures .ready
+read-kind-requires-5 : tie.Need-read-kind-requires-5
+read-kind-requires-5 c κs = (search needs, c .read-kind4 .ensures .ready)
 
-read-principals-requires : tie.Need-read-principals-requires
-read-principals-requires c κs = c .read-hierarchy .ensures .ready
+read-kind-requires-6 : tie.Need-read-kind-requires-6
+read-kind-requires-6 c κs = (search needs, c .read-kind5 .ensures .ready)
 
-read-exclusions-requires : tie.Need-read-exclusions-requires
-read-exclusions-requires c κs = c .read-principals .ensures .ready
+read-kind-requires-7 : tie.Need-read-kind-requires-7
+read-kind-requires-7 c κs = (search needs, c .read-kind6 .ensures .ready)
 
-read-prerequisites-requires : tie.Need-read-prerequisites-requires
-read-prerequisites-requires c κs = c .read-exclusions .ensures .ready
+read-kind-requires-8 : tie.Need-read-kind-requires-8
+read-kind-requires-8 c κs = (search needs, c .read-kind7 .ensures .ready)
 
-read-methods-requires : tie.Need-read-methods-requires
-read-methods-requires c κs = c .read-prerequisites .ensures .ready
+read-kind-requires-9 : tie.Need-read-kind-requires-9
+read-kind-requires-9 c κs = (search needs, c .read-kind8 .ensures .ready)
 
 finish-requires : tie.Need-finish-requires
-finish-requires c κs = c .read-methods .ensures .ready
+finish-requires c κs = c .read-kind9 .ensures .ready
 
 returns-2 : tie.Need-returns-2
 returns-2 c =
     c .finish .ensures
-    ∙ c .before .read-methods .ensures .same
-    ∙ c .before .before .read-prerequisites .ensures .same
-    ∙ c .before .before .before .read-exclusions .ensures .same
-    ∙ c .before .before .before .before .read-principals .ensures .same
-    ∙ c .before .before .before .before .before .read-hierarchy .ensures .same
-    ∙ c .before .before .before .before .before .before .read-demarcations .ensures .same
-    ∙ c .before .before .before .before .before .before .before .read-formulas .ensures .same
-    ∙ c .before .before .before .before .before .before .before .before .read-edges .ensures .same
-    ∙ c .before .before .before .before .before .before .before .before .before .read-users .ensures .same
+    ∙ c .before .read-kind9 .ensures .same
+    ∙ c .before .before .read-kind8 .ensures .same
+    ∙ c .before .before .before .read-kind7 .ensures .same
+    ∙ c .before .before .before .before .read-kind6 .ensures .same
+    ∙ c .before .before .before .before .before .read-kind5 .ensures .same
+    ∙ c .before .before .before .before .before .before .read-kind4 .ensures .same
+    ∙ c .before .before .before .before .before .before .before .read-kind3 .ensures .same
+    ∙ c .before .before .before .before .before .before .before .before .read-kind2 .ensures .same
+    ∙ c .before .before .before .before .before .before .before .before .before .read-kind .ensures .same
     ∙ c .before .before .before .before .before .before .before .before .before .before .read-head .ensures .same
 
 pub load-spec : {M : Type 1} → statement M
@@ -66,14 +66,14 @@ load-spec =
     not-loaded-requires
     returns
     read-head-requires
-    read-users-requires
-    read-edges-requires
-    read-formulas-requires
-    read-demarcations-requires
-    read-hierarchy-requires
-    read-principals-requires
-    read-exclusions-requires
-    read-prerequisites-requires
-    read-methods-requires
+    read-kind-requires
+    read-kind-requires-2
+    read-kind-requires-3
+    read-kind-requires-4
+    read-kind-requires-5
+    read-kind-requires-6
+    read-kind-requires-7
+    read-kind-requires-8
+    read-kind-requires-9
     finish-requires
     returns-2)

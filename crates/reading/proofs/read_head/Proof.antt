@@ -5,13 +5,13 @@ use native.Mathlib.Omega.{arith}
 use borrow.Author.Needs.{needs}
 use Rattle.policy.specs.declared.Record.{Record}
 use Rattle.policy.specs.Table.{head, appended}
-use Rattle.reading.specs.declared.Cursor.{Cursor}
+use Rattle.lines.specs.declared.Cursor.{Cursor}
 use Rattle.reading.specs.Body.{numbers}
 use Rattle.reading.specs.Stages.{Starts}
-use Rattle.reading.proofs.Lines.{Found, found-line, sum-most}
+use Rattle.lines.proofs.FoundLine.{FoundLine, found-line, sum-most}
 use Rattle.reading.proofs.Bodies.{one-octet, numbers-are}
-use Rattle.reading.proofs.Going.{stage}
-use Rattle.reading.proofs.Heads.{head-stops, head-other, head-refused, head-taken}
+use Rattle.reading.proofs.Partway.{stage}
+use Rattle.reading.proofs.Heads.{head-unread, head-other, head-refused, head-taken}
 use Rattle.reading.proofs.read_head.Statement.{statement}
 use Rattle.reading.proofs.read_head.Tie as tie
 
@@ -49,7 +49,7 @@ stopped-requires-3 : tie.Need-stopped-requires-3
 stopped-requires-3 c κs = search needs
 
 -- the line that was found, and its numbers
-found : (n : tie.After-next) → Found (n .before .before .before .before .before .args .text .now) 0 0x01 5 (n .next .given .0 .0) (n .next .given .0 .1 .0)
+found : (n : tie.After-next) → FoundLine (n .before .before .before .before .before .args .text .now) 0 0x01 5 (n .next .given .0 .0) (n .next .given .0 .1 .0)
 found n = found-line _ 0 0x01 5 (sym (n .before .before .next-line .ensures) ∙ n .next .given .1)
 
 taken : (q : tie.After-head-refusal) → numbers head (found (q .before .before .before .before) .os) ≡ q .before .before .octet-at .result ∷ q .before .octet-at2 .result ∷ []
@@ -67,13 +67,13 @@ returns c =
 past-requires : tie.Need-past-requires
 past-requires c κs =
     let m = sum-most _ (found (c .before .before .before .before .before) .framed) in
-    (omega arith, omega arith, omega (arith, found (c .before .before .before .before .before) .summed))
+    (record { few = omega arith; sum = omega arith }, omega (arith, found (c .before .before .before .before .before) .summed))
 
 returns-2 : tie.Need-returns-2
 returns-2 c = subst (Starts _) (sym (c .stopped .ensures)) (head-other _ _ (c .before .before .before .before .before .before .pre) (sym (c .before .before .before .next-line .ensures) ∙ c .before .enum-told .given .1))
 
 returns-3 : tie.Need-returns-3
-returns-3 c = subst (Starts _) (sym (c .stopped2 .ensures)) (head-stops _ _ _ (sym (c .before .before .before .before .next-line .ensures) ∙ c .before .before .number .given .1))
+returns-3 c = subst (Starts _) (sym (c .stopped2 .ensures)) (head-unread _ _ _ (sym (c .before .before .before .before .next-line .ensures) ∙ c .before .before .number .given .1))
 
 returns-4 : tie.Need-returns-4
 unfolding appended

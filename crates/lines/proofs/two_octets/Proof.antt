@@ -1,8 +1,8 @@
 -- `two_octets` meets its contract.
 use mathlib.Core.Path.{refl}
 use borrow.Author.Needs.{needs}
-use Rattle.reading.proofs.two_octets.Statement.{statement}
-use Rattle.reading.proofs.two_octets.Tie as tie
+use Rattle.lines.proofs.two_octets.Statement.{statement}
+use Rattle.lines.proofs.two_octets.Tie as tie
 
 mul-result : tie.Need-mul-result
 mul-result c = search needs

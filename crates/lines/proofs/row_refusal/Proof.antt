@@ -1,18 +1,14 @@
 -- `row_refusal` meets its contract: in each arm the kind is known, and its check says so.
 use borrow.Author.Needs.{needs}
-use Rattle.common.specs.Lists.{at}
-use Rattle.reading.proofs.Readers.{formula-refused, last-kind}
-use Rattle.reading.proofs.row_refusal.Statement.{statement}
-use Rattle.reading.proofs.row_refusal.Tie as tie
+use Rattle.lines.proofs.EachKind.{last-kind}
+use Rattle.lines.proofs.row_refusal.Statement.{statement}
+use Rattle.lines.proofs.row_refusal.Tie as tie
 
 user-refusal-requires : tie.Need-user-refusal-requires
 user-refusal-requires c κs = search needs
 
 edge-refusal-requires : tie.Need-edge-refusal-requires
 edge-refusal-requires c κs = search needs
-
-formula-height-requires : tie.Need-formula-height-requires
-formula-height-requires c κs = c .before .pre .2 (c .match .keys3)
 
 formula-refusal-requires : tie.Need-formula-refusal-requires
 formula-refusal-requires c κs = search needs
@@ -42,7 +38,7 @@ returns-2 : tie.Need-returns-2
 returns-2 c = rw (c .before .match .keys2) (c .edge-refusal .ensures)
 
 returns-3 : tie.Need-returns-3
-returns-3 c = let x = c .before .before .before .args in rw (c .before .before .match .keys3) (formula-refused (x .n) (x .row) (at (x .heights)) (c .formula-refusal .ensures) (c .before .formula-height .ensures))
+returns-3 c = rw (c .before .match .keys3) (c .formula-refusal .ensures)
 
 returns-4 : tie.Need-returns-4
 returns-4 c = rw (c .before .match .keys4) (c .demarcation-refusal .ensures)
@@ -60,9 +56,7 @@ returns-8 : tie.Need-returns-8
 returns-8 c = rw (c .before .match .keys8) (c .pair-refusal2 .ensures)
 
 returns-9 : tie.Need-returns-9
-returns-9 c =
-    let a = c .before .before in
-    rw (last-kind (a .args .kind) (a .pre .0) (a .pre .1) (c .before .match .rest)) (c .method-refusal .ensures)
+returns-9 c = let a = c .before .before in rw (last-kind (a .pre) (c .before .match .rest)) (c .method-refusal .ensures)
 
 pub row-refusal-spec : {M : Type 1} → statement M
 row-refusal-spec =
@@ -70,7 +64,6 @@ row-refusal-spec =
     (tie.spec
     user-refusal-requires
     edge-refusal-requires
-    formula-height-requires
     formula-refusal-requires
     demarcation-refusal-requires
     pair-refusal-requires

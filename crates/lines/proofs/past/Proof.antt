@@ -1,8 +1,8 @@
 -- `past` meets its contract.
 use mathlib.Core.Path.{refl}
 use borrow.Author.Needs.{needs}
-use Rattle.reading.proofs.past.Statement.{statement}
-use Rattle.reading.proofs.past.Tie as tie
+use Rattle.lines.proofs.past.Statement.{statement}
+use Rattle.lines.proofs.past.Tie as tie
 
 add-t5 : tie.Need-add-t5
 add-t5 c = search needs

@@ -8,7 +8,7 @@ use native.Mathlib.Nat.{pow-suc, pow-le-pow-right}
 use Rattle.common.specs.Lists.{table}
 use Rattle.octets.specs.Answers.{octetAt}
 use Rattle.octets.specs.NumberLaws.{number-last}
-use Rattle.reading.specs.Stages.{numberAt}
+use Rattle.lines.specs.NextLine.{numberAt}
 
 pub record Value (t : List ℕ) (k value i : ℕ) : Type 0 where
   pub same : value ≡ numberAt t k i

@@ -3,10 +3,10 @@ use mathlib.Core.Path.{sym, _∙_}
 use lib.ListN.{drop}
 use Rattle.octets.specs.Line.{frame}
 use Rattle.octets.specs.AnswerLaws.{AnswerOctets, answer-refused, answer-octets}
-use Rattle.reading.proofs.Nexts.{next-end, next-refused, next-other, next-size, next-body}
+use Rattle.lines.proofs.NextLaws.{next-end, next-refused, next-other, next-size, next-body}
 use borrow.Author.Needs.{needs}
-use Rattle.reading.proofs.next_line.Statement.{statement}
-use Rattle.reading.proofs.next_line.Tie as tie
+use Rattle.lines.proofs.next_line.Statement.{statement}
+use Rattle.lines.proofs.next_line.Tie as tie
 
 returns : tie.Need-returns
 returns c = next-end _ _ _ _ (c .if1 .taken)
@@ -24,7 +24,7 @@ octet-at-requires : tie.Need-octet-at-requires
 octet-at-requires c κs = search needs
 
 -- the octets of the line that was read
-line : (c : tie.After-count) → let f = c .before .before in let g = c .count .given .0 in AnswerOctets (f .before .before .before .args .place) (g .0) (g .1 .0) (g .1 .1 .0) (frame (drop (f .before .before .before .args .place) (f .before .before .before .args .text .now)))
+line : (c : tie.After-count) → let f = c .before .before in let g = c .count .given .0 in AnswerOctets (f .before .before .before .args .offset) (g .0) (g .1 .0) (g .1 .1 .0) (frame (drop (f .before .before .before .args .offset) (f .before .before .before .args .text .now)))
 line c = let f = c .before .before in answer-octets _ _ _ _ _ (sym (f .read-line .ensures) ∙ c .count .given .1)
 
 returns-2 : tie.Need-returns-2

@@ -3,17 +3,17 @@ use Prim.Native.Nat.{_-_, _≤_}
 use mathlib.Core.Path.{_∙_, ap}
 use native.Mathlib.Omega.{arith}
 use lib.ListN.{drop}
-use Rattle.reading.specs.Stages.{numberAt}
-use Rattle.reading.proofs.Numbers.{Value, value-none, value-more, value-fits}
+use Rattle.lines.specs.NextLine.{numberAt}
+use Rattle.lines.proofs.Numbers.{Value, value-none, value-more, value-fits}
 use borrow.Author.Needs.{needs}
-use Rattle.reading.proofs.number_at.Statement.{statement}
-use Rattle.reading.proofs.number_at.Tie as tie
+use Rattle.lines.proofs.number_at.Statement.{statement}
+use Rattle.lines.proofs.number_at.Tie as tie
 
 abbrev Inv-loop : tie.InvT-loop
-Inv-loop text place k n value₀ i₀ value i = Value (drop place text) k value i × (i ≤ n)
+Inv-loop text offset k n value₀ i₀ value i = Value (drop offset text) k value i × (i ≤ n)
 
 abbrev μ-loop : tie.MeasureT-loop
-μ-loop text place k n value₀ i₀ value i = n - i
+μ-loop text offset k n value₀ i₀ value i = n - i
 
 loop-holds : tie.Need-loop-holds Inv-loop μ-loop
 loop-holds c = (value-none, omega arith)

@@ -2,10 +2,9 @@
 use mathlib.Core.Path.{sym, _∙_}
 use borrow.Author.Needs.{needs}
 use Rattle.policy.specs.Table.{kindOf}
-use Rattle.policy.specs.Table.{kindOf}
-use Rattle.reading.proofs.Readers.{after-none}
-use Rattle.reading.proofs.after_row.Statement.{statement}
-use Rattle.reading.proofs.after_row.Tie as tie
+use Rattle.lines.proofs.EachKind.{after-none}
+use Rattle.lines.proofs.after_row.Statement.{statement}
+use Rattle.lines.proofs.after_row.Tie as tie
 
 after-user-requires : tie.Need-after-user-requires
 after-user-requires c κs = search needs
@@ -40,7 +39,7 @@ returns-5 c = rw (c .before .match .keys5) (c .after-pair3 .ensures)
 returns-6 : tie.Need-returns-6
 returns-6 c =
     let m = c .match .rest in
-    let e = c .before .pre in
+    let e = c .before .pre .known in
     let x = c .before .args in
     after-none (kindOf (x .kind)) (x .row) (λ q. m .0 .0 .0 .0 .1 (sym e ∙ q)) (λ q. m .0 .0 .0 .1 (sym e ∙ q)) (λ q. m .0 .0 .1 (sym e ∙ q)) (λ q. m .0 .1 (sym e ∙ q)) (λ q. m .1 (sym e ∙ q))
 

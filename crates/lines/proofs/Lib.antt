@@ -1,0 +1,4 @@
+pub mod NextLaws
+mod Numbers
+pub mod FoundLine
+pub mod EachKind

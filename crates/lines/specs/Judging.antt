@@ -1,0 +1,119 @@
+-- A line of any kind that has a table, by the numbers that its body may hold (`Row`): what refuses it, and what comes after it.
+use Prim.Native.Nat.{ℕ, _+_, _*_, _≤_, _<_}
+use mathlib.Core.Path.{_≡_}
+use mathlib.Core.Logic.{_≢_}
+use mathlib.Core.Bool.{false, not, cond, _&&_}
+use mathlib.Core.List.{List, [], _∷_}
+use lib.ListN.{drop}
+use lib.Dec.{ltb, leb, eqb}
+use Rattle.common.specs.Lists.{at}
+use Rattle.common.specs.Limits.{mostEdges, mostFormulas, mostDemarcations, mostPrincipals, mostMethods, mostLines}
+use Rattle.common.specs.Causes.{first}
+use Rattle.octets.specs.Answers.{octetAt}
+use Rattle.policy.specs.Table.{Kind, head, user, edge, formula, demarcation, hierarchy, principal, exclusion, prerequisite, method, end, code, kindOf}
+use Rattle.policy.specs.Rows.{key}
+use Rattle.rows.specs.Op.{opOf, heightOf, formulaInRange}
+use Rattle.rows.specs.Checks.{edgeInRange, pairInRange, edgeKey, pairKey, causes}
+use Rattle.lines.specs.declared.Next.the-variants.{Body}
+use Rattle.lines.specs.declared.Next.the-variants as next
+use Rattle.lines.specs.declared.Row.{Row}
+use Rattle.lines.specs.declared.Bounds.{Bounds}
+use Rattle.lines.specs.declared.Cursor.{Cursor}
+use Rattle.lines.specs.declared.Judged.{Judged}
+use Rattle.lines.specs.declared.Judged.the-variants.{Other, Refused, Taken}
+use Rattle.lines.specs.NextLine.{nextOf, numberAt}
+
+-- a kind octet between the head's and the end's
+pub record TableKind (kind : ℕ) : Type 0 where
+  pub low : 1 < kind
+  pub high : kind < 0xFF
+  pub known : code (kindOf kind) ≡ kind
+
+-- ---- the numbers of the line of a kind that a text starts with
+
+abbrev pub wideAt : ℕ → List ℕ → ℕ
+wideAt kind t = cond (eqb kind (code demarcation)) (numberAt t 2 8) (cond (eqb kind (code method)) (numberAt t 3 8) 0)
+
+abbrev pub rowAt : ℕ → List ℕ → Row
+rowAt kind t = record { a = octetAt t 2; b = octetAt t 3; c = octetAt t 4; roles = octetAt t 3 * 256 + octetAt t 4; wide = wideAt kind t }
+
+-- as the numbers of the kind's body
+abbrev pub fieldsOf : Kind → Row → List ℕ
+fieldsOf head v = []
+fieldsOf user v = v .a ∷ v .roles ∷ []
+fieldsOf edge v = v .a ∷ v .b ∷ v .c ∷ []
+fieldsOf formula v = v .a ∷ v .b ∷ v .c ∷ []
+fieldsOf demarcation v = v .wide ∷ []
+fieldsOf hierarchy v = v .a ∷ v .b ∷ []
+fieldsOf principal v = v .a ∷ v .b ∷ []
+fieldsOf exclusion v = v .a ∷ v .b ∷ []
+fieldsOf prerequisite v = v .a ∷ v .b ∷ []
+fieldsOf method v = v .a ∷ v .wide ∷ []
+fieldsOf end v = []
+
+-- ---- what refuses them
+
+-- a formula's height, from those of the formulas before it
+abbrev pub heightBy : ℕ → Row → (ℕ → ℕ) → ℕ
+heightBy kind v heights = cond (eqb kind (code formula)) (heightOf (opOf (v .a)) (v .b) (v .c) heights) 0
+
+abbrev pub refusalBy : Kind → Bounds → ℕ → Row → ℕ
+refusalBy head m h v = 0
+refusalBy user m h v = first (causes false (not (ltb (v .a) (m .objects))) (ltb (v .a) (m .«least_key»)))
+refusalBy edge m h v =
+    first
+    (causes (leb mostEdges (m .row)) (not (edgeInRange (m .objects) (v .a) (v .b) (v .c))) (ltb (edgeKey (v .a) (v .b) (v .c)) (m .«least_key»)))
+refusalBy formula m h v = first (causes (leb mostFormulas (m .row)) (not (formulaInRange (m .row) (v .a) (v .b) (v .c) h)) false)
+refusalBy demarcation m h v = first (causes (leb mostDemarcations (m .row)) false false)
+refusalBy hierarchy m h v = first (causes false (not (pairInRange (m .demarcations) (v .a) (v .b))) (ltb (pairKey (v .a) (v .b)) (m .«least_key»)))
+refusalBy principal m h v =
+    first (causes (leb mostPrincipals (m .row)) (not (ltb (v .a) (m .formulas) && ltb (v .b) (m .demarcations))) false)
+refusalBy exclusion m h v =
+    first (causes false (not (ltb (v .a) (v .b) && ltb (v .b) (m .principals))) (ltb (pairKey (v .a) (v .b)) (m .«least_key»)))
+refusalBy prerequisite m h v =
+    first (causes false (not (pairInRange (m .principals) (v .a) (v .b))) (ltb (pairKey (v .a) (v .b)) (m .«least_key»)))
+refusalBy method m h v = first (causes (leb mostMethods (m .row)) (not (leb (v .a) 1)) false)
+refusalBy end m h v = 0
+
+-- the heights of formulas that a line is judged by are small
+abbrev pub HeightsLow : ℕ → List ℕ → Type 0
+HeightsLow kind heights = kind ≡ code formula → (g : ℕ) → at heights g < 255
+
+-- ---- the line at a cursor
+
+-- the most that the octets of a line add to: 258 octets of 255
+abbrev pub mostLineSum : ℕ
+mostLineSum = 258 * 255
+
+-- a bundle has no more lines, before its end line, than were read
+pub record CursorBound (c : Cursor) : Type 0 where
+  pub few : c .lines ≤ mostLines
+  pub sum : c .sum ≤ mostLineSum * mostLines
+
+abbrev pub movedPast : Cursor → ℕ → ℕ → ℕ → Cursor
+movedPast c kind next sum = record { number = 0; offset = next; lines = c .lines + 1; last = kind; sum = c .sum + sum }
+
+-- what the answers of `judged_line` say, for a reader of lines of a kind and size, held to the bounds m and the heights of the formulas before
+module _ (text : List ℕ) (c : Cursor) (kind size : ℕ) (m : Bounds) (heights : ℕ → ℕ) where
+  -- refused: as a line, or by its numbers
+  pub data Refuses (n : ℕ) : Type 0 where
+    as-line : nextOf text (c .offset) kind size ≡ next.Refused n → Refuses n
+    by-numbers :
+        {following sum : ℕ} → nextOf text (c .offset) kind size ≡ Body following sum → {v : Row} → v ≡ rowAt kind (drop (c .offset) text)
+        → {h : ℕ} → h ≡ heightBy kind v heights → n ≡ refusalBy (kindOf kind) m h v → n ≢ 0 → Refuses n
+
+  -- taken: its numbers, its height, the least key that may follow, and the cursor past it
+  pub record Takes (v : Row) (h leastKey : ℕ) (further : Cursor) : Type 0 where
+    pub following : ℕ
+    pub sum : ℕ
+    pub found : nextOf text (c .offset) kind size ≡ Body following sum
+    pub row : v ≡ rowAt kind (drop (c .offset) text)
+    pub height : h ≡ heightBy kind v heights
+    pub passes : refusalBy (kindOf kind) m h v ≡ 0
+    pub least : leastKey ≡ key (kindOf kind) (fieldsOf (kindOf kind) v) + 1
+    pub moved : further ≡ movedPast c kind following sum
+
+  abbrev pub Judges : Judged → Type 0
+  Judges Other = nextOf text (c .offset) kind size ≡ next.Other
+  Judges (Refused n) = Refuses n
+  Judges (Taken v h leastKey further) = Takes v h leastKey further

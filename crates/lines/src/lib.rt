@@ -1,0 +1,249 @@
+// One line of a bundle, for a reader of the lines of one kind: what stands at an offset, its numbers, what refuses them, and the cursor past it.
+
+ghost use mathlib.Core.Path.{_≡_};
+ghost use Prim.Native.Nat.{_+_, _*_, _≤_};
+ghost use lib.ListN.{drop};
+ghost use Rattle.common.specs.Lists.{at};
+ghost use Rattle.policy.specs.Table.{kindOf};
+ghost use Rattle.policy.specs.Rows.{key};
+ghost use Rattle.lines.specs.NextLine.{nextOf, numberAt};
+ghost use Rattle.lines.specs.Judging.{wideAt, rowAt, fieldsOf, heightBy, refusalBy, mostLineSum, movedPast, Judges, TableKind, HeightsLow, CursorBound};
+use octets::Line;
+
+// ---- what stands at an offset
+
+// What stands at an offset, for a reader of lines of one kind.
+pub enum Next {
+    // The text's end, or a line of another kind.
+    Other,
+    // A line that is refused with 1, 2, 3, or, being of this kind, with 4.
+    Refused(u8),
+    // A line of this kind: where the next one starts, and the plain sum of its octets.
+    Body { next: usize, total: usize },
+}
+
+// Reads the line at an offset as one of a kind, whose lines have so many octets.
+pub fn next_line(text: &[u8], offset: usize, kind: u8, size: usize) -> Next
+    ensures { λ r. ⌜ r ≡ nextOf (now (text .entry)) offset kind size ⌝ }
+{
+    if text.len() <= offset {
+        return Next::Other;
+    }
+    match octets::read_line(text, offset) {
+        Line::Refused(number) => Next::Refused(number),
+        Line::Octets { count, next, total } => {
+            if octets::octet_at(text, offset, 1) != kind {
+                return Next::Other;
+            }
+            if count != size {
+                return Next::Refused(common::WRONG_KIND);
+            }
+            Next::Body {
+                next: next,
+                total: total,
+            }
+        }
+    }
+}
+
+// The number that n octets of the line at an offset make, from the k-th on, the high octet first.
+pub fn number_at(text: &[u8], offset: usize, k: usize, n: usize) -> u64
+    requires { ⌜ (n ≤ 8) × (k ≤ 256) ⌝ }
+    ensures { λ r. ⌜ r ≡ numberAt (drop offset (now (text .entry))) k n ⌝ }
+{
+    let mut value: u64 = 0;
+    let mut i = 0;
+    while i < n {
+        let o = octets::octet_at(text, offset, k + i);
+        value = value * 256 + (o as u64);
+        i += 1;
+    }
+    value
+}
+
+// ---- a line's numbers
+
+// The numbers that a line's body may hold: its first three octets, the second and third as one number (a user's roles),
+// and its number of eight octets where the kind has one.
+pub struct Row {
+    pub a: u8,
+    pub b: u8,
+    pub c: u8,
+    pub roles: u16,
+    pub wide: u64,
+}
+
+// A number of two octets.
+fn two_octets(high: u8, low: u8) -> u16
+    ensures { λ r. ⌜ r ≡ high * 256 + low ⌝ }
+{
+    (high as u16) * 256 + (low as u16)
+}
+
+// The number of eight octets of a line of a kind; 0 where the kind has none.
+fn wide_at(text: &[u8], offset: usize, kind: u8) -> u64
+    ensures { λ r. ⌜ r ≡ wideAt kind (drop offset (now (text .entry))) ⌝ }
+{
+    if kind == 0x05 {
+        return number_at(text, offset, 2, 8);
+    }
+    if kind == 0x0A {
+        return number_at(text, offset, 3, 8);
+    }
+    0
+}
+
+// The numbers of the line of a kind at an offset.
+fn row_at(text: &[u8], offset: usize, kind: u8) -> Row
+    ensures { λ r. ⌜ r ≡ rowAt kind (drop offset (now (text .entry))) ⌝ }
+{
+    let a = octets::octet_at(text, offset, 2);
+    let b = octets::octet_at(text, offset, 3);
+    let c = octets::octet_at(text, offset, 4);
+    let roles = two_octets(b, c);
+    let wide = wide_at(text, offset, kind);
+    Row {
+        a: a,
+        b: b,
+        c: c,
+        roles: roles,
+        wide: wide,
+    }
+}
+
+// ---- what refuses them
+
+// What a line is held to: the row of its kind's table that it would fill, the least key that may stand there,
+// and how many objects, formulas, demarcations and principals there are.
+pub struct Bounds {
+    pub row: usize,
+    pub least_key: u32,
+    pub objects: u8,
+    pub formulas: usize,
+    pub demarcations: usize,
+    pub principals: usize,
+}
+
+// The height of the formula that a line says, from the heights of those before it; 0 for any other kind.
+fn height_of(kind: u8, row: Row, heights: [u8; 64]) -> u8
+    requires { ⌜ HeightsLow kind heights ⌝ }
+    ensures { λ r. ⌜ r ≡ heightBy kind row (at heights) ⌝ }
+{
+    if kind == 0x04 {
+        return rows::formula_height(row.a, row.b, row.c, heights);
+    }
+    0
+}
+
+// What refuses a line of a kind (5, 6, 7; 0 for nothing).
+fn row_refusal(kind: u8, bounds: Bounds, height: u8, row: Row) -> u8
+    requires { ⌜ TableKind kind ⌝ }
+    ensures { λ r. ⌜ r ≡ refusalBy (kindOf kind) bounds height row ⌝ }
+{
+    let n = bounds.row;
+    let least_key = bounds.least_key;
+    let a = row.a;
+    let b = row.b;
+    match kind {
+        0x02 => rows::user_refusal(bounds.objects, least_key, a),
+        0x03 => rows::edge_refusal(n, bounds.objects, least_key, a, b, row.c),
+        0x04 => rows::formula_refusal(n, a, b, row.c, height),
+        0x05 => rows::demarcation_refusal(n),
+        0x06 => rows::pair_refusal(bounds.demarcations, least_key, a, b),
+        0x07 => rows::principal_refusal(n, bounds.formulas, bounds.demarcations, a, b),
+        0x08 => rows::exclusion_refusal(bounds.principals, least_key, a, b),
+        0x09 => rows::pair_refusal(bounds.principals, least_key, a, b),
+        _ => rows::method_refusal(n, a),
+    }
+}
+
+// The least key that may follow a line of a kind.
+fn after_row(kind: u8, row: Row) -> u32
+    requires { ⌜ TableKind kind ⌝ }
+    ensures { λ r. ⌜ r ≡ key (kindOf kind) (fieldsOf (kindOf kind) row) + 1 ⌝ }
+{
+    match kind {
+        0x02 => rows::after_user(row.a),
+        0x03 => rows::after_edge(row.a, row.b, row.c),
+        0x06 => rows::after_pair(row.a, row.b),
+        0x08 => rows::after_pair(row.a, row.b),
+        0x09 => rows::after_pair(row.a, row.b),
+        _ => 1,
+    }
+}
+
+// ---- the line at a cursor
+
+// How far loading has come: the number that refuses the last line read (0 for none), the offset at which the next one starts,
+// how many lines were read, the last taken one's kind, and the plain sum of their octets.
+pub struct Cursor {
+    pub number: u8,
+    pub offset: usize,
+    pub lines: usize,
+    pub last: u8,
+    pub sum: usize,
+}
+
+// The cursor past a line of a kind.
+pub fn past(cursor: Cursor, kind: u8, next: usize, total: usize) -> Cursor
+    requires { ⌜ CursorBound cursor × (total ≤ mostLineSum) ⌝ }
+    ensures { λ r. ⌜ r ≡ movedPast cursor kind next total ⌝ }
+{
+    Cursor {
+        number: 0,
+        offset: next,
+        lines: cursor.lines + 1,
+        last: kind,
+        sum: cursor.sum + total,
+    }
+}
+
+// What a reader of the lines of one kind makes of the line at its cursor.
+pub enum Judged {
+    // The text's end, or a line of another kind.
+    Other,
+    // A line that is refused with this number.
+    Refused(u8),
+    // A line that is taken: its numbers, a formula's height, the least key that may follow, and the cursor past it.
+    Taken {
+        row: Row,
+        height: u8,
+        least_key: u32,
+        cursor: Cursor,
+    },
+}
+
+// Judges the line at the cursor as one of a kind, whose lines have so many octets.
+pub fn judged_line(
+    text: &[u8],
+    cursor: Cursor,
+    kind: u8,
+    size: usize,
+    bounds: Bounds,
+    heights: [u8; 64],
+) -> Judged
+    requires { ⌜ TableKind kind × CursorBound cursor × HeightsLow kind heights ⌝ }
+    ensures { λ r. ⌜ Judges (now (text .entry)) cursor kind size bounds (at heights) r ⌝ }
+{
+    let offset = cursor.offset;
+    match next_line(text, offset, kind, size) {
+        Next::Other => Judged::Other,
+        Next::Refused(number) => Judged::Refused(number),
+        Next::Body { next, total } => {
+            let row = row_at(text, offset, kind);
+            let height = height_of(kind, row, heights);
+            let number = row_refusal(kind, bounds, height, row);
+            if number != 0 {
+                return Judged::Refused(number);
+            }
+            let least_key = after_row(kind, row);
+            let further = past(cursor, kind, next, total);
+            Judged::Taken {
+                row: row,
+                height: height,
+                least_key: least_key,
+                cursor: further,
+            }
+        }
+    }
+}
