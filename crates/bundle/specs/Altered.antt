@@ -15,7 +15,7 @@ use Rattle.octets.specs.Damage.{OneAltered}
 use Rattle.octets.specs.DamageLaws.{never-well-framed}
 use Rattle.policy.specs.Table.{Kind, hierarchy, prerequisite, kindOf, count, room, rows}
 use Rattle.rows.specs.Checks.{causes}
-use Rattle.policy.specs.Rows.{limited, rising, key, leastKey, inRange, rowCauses}
+use Rattle.policy.specs.Rows.{limited, rising, key, minimumKey, inRange, rowCauses}
 use Rattle.reading.specs.declared.Loaded.{Loaded}
 use Rattle.reading.specs.Body.{numbers}
 use Rattle.reading.specs.Loading.{Reading, atTop, misplaced, endWrong, lineRefusal, afterLine, notLoaded, atEnd, read, load}
@@ -42,7 +42,7 @@ line-number t k os =
     let v = numbers k os in
     let r = t .rules in
     let i = count k r in
-    go (misplaced t k os) (limited k && leb (room k) i) (not (inRange k i r v)) (rising k && ltb (key k v) (leastKey k i r)) (endWrong t k v)
+    go (misplaced t k os) (limited k && leb (room k) i) (not (inRange k i r v)) (rising k && ltb (key k v) (minimumKey k i r)) (endWrong t k v)
   where
     go : (kind over out falls last : Bool) → first (cause wrongKind kind ∷ (causes over out falls ++ (cause wrongEnd last ∷ []))) ≤ 9
     go true over out falls last = omega arith

@@ -15,7 +15,7 @@ use Rattle.policy.specs.Table.{Kind, head, user, edge, formula, demarcation, hi
 use Rattle.rows.specs.Op.{opOf, heightOf, formulaInRange}
 use Rattle.policy.specs.Height.{height}
 use Rattle.rows.specs.Checks.{causes}
-use Rattle.policy.specs.Rows.{limited, rising, key, leastKey, inRange, rowCauses, rowRefusal}
+use Rattle.policy.specs.Rows.{limited, rising, key, minimumKey, inRange, rowCauses, rowRefusal}
 use Rattle.policy.specs.Loadable.{loadable}
 use Rattle.policy.specs.LoadableLaws.{loadable-table, table-rows}
 
@@ -34,7 +34,7 @@ same-height p r (suc i) e g = go (ℕ-discrete g i) (same-height p r i (λ m l. 
     go (yes q) h = let u = e g (omega arith) in rw (eq-eqb g i q) (λ t. heightOf (opOf (at (u t) 0)) (at (u t) 1) (at (u t) 2) (λ f. h f t))
     go (no q) h = rw (ne-eqb g i q) (h g)
 
-same-least : (k : Kind) (i : ℕ) (p r : Record) → Agree k i p r → leastKey k i p ≡ leastKey k i r
+same-least : (k : Kind) (i : ℕ) (p r : Record) → Agree k i p r → minimumKey k i p ≡ minimumKey k i r
 same-least k zero p r a = refl
 same-least k (suc i) p r a = λ t. key k (a .above i (omega arith) t) + 1
 

@@ -12,7 +12,7 @@ use Rattle.common.specs.Refusals.{wrongKind}
 use Rattle.octets.specs.Line.{refused, octets, kindOctet, frame}
 use Rattle.octets.specs.LineLaws.{accepted, octet-at}
 use Rattle.octets.specs.Answers.{octetAt}
-use Rattle.octets.specs.AnswerLaws.{ToldOctets}
+use Rattle.octets.specs.AnswerLaws.{AnswerOctets}
 use Rattle.lines.specs.declared.Next.the-variants.{Other, Refused, Body}
 use Rattle.lines.specs.NextLine.{nextIs, nextOf}
 
@@ -29,7 +29,7 @@ module _ (text : List ℕ) (offset kind size : ℕ) where
     pub next-refused : {k : ℕ} → frame (drop offset text) ≡ refused k → Refused k ≡ nextOf text offset kind size
     next-refused e = sym (here ∙ ap (nextIs offset kind size) e)
 
-    module _ {count next sum : ℕ} (t : ToldOctets offset count next sum (frame (drop offset text))) where
+    module _ {count next sum : ℕ} (t : AnswerOctets offset count next sum (frame (drop offset text))) where
       found : nextOf text offset kind size ≡ nextIs offset kind size (octets (t .os))
       found = here ∙ ap (nextIs offset kind size) (t .framed)
 

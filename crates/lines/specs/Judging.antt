@@ -103,17 +103,17 @@ module _ (text : List ℕ) (c : Cursor) (kind size : ℕ) (m : Bounds) (heights 
         → {h : ℕ} → h ≡ heightBy kind v heights → n ≡ refusalBy (kindOf kind) m h v → n ≢ 0 → Refuses n
 
   -- taken: its numbers, its height, the least key that may follow, and the cursor past it
-  pub record Takes (v : Row) (h leastKey : ℕ) (further : Cursor) : Type 0 where
+  pub record Takes (v : Row) (h minimumKey : ℕ) (further : Cursor) : Type 0 where
     pub following : ℕ
     pub sum : ℕ
     pub found : nextOf text (c .offset) kind size ≡ Body following sum
     pub row : v ≡ rowAt kind (drop (c .offset) text)
     pub height : h ≡ heightBy kind v heights
     pub passes : refusalBy (kindOf kind) m h v ≡ 0
-    pub least : leastKey ≡ key (kindOf kind) (fieldsOf (kindOf kind) v) + 1
+    pub least : minimumKey ≡ key (kindOf kind) (fieldsOf (kindOf kind) v) + 1
     pub moved : further ≡ movedPast c kind following sum
 
   abbrev pub Judges : Judged → Type 0
   Judges Other = nextOf text (c .offset) kind size ≡ next.Other
   Judges (Refused n) = Refuses n
-  Judges (Taken v h leastKey further) = Takes v h leastKey further
+  Judges (Taken v h minimumKey further) = Takes v h minimumKey further

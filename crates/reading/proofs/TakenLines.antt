@@ -17,7 +17,7 @@ use Rattle.policy.specs.Height.{height}
 use Rattle.policy.specs.HeightLaws.{Heights, heights-start, heights-low, height-here, heights-appended}
 use Rattle.policy.specs.LoadableLaws.{table-few}
 use Rattle.policy.specs.TableLaws.{count-same, least-appended}
-use Rattle.policy.specs.Rows.{leastKey, rowRefusal}
+use Rattle.policy.specs.Rows.{minimumKey, rowRefusal}
 use Rattle.policy.specs.RowLaws.{user-values, edge-values, formula-values, demarcation-values, hierarchy-values, principal-values, exclusion-values, prerequisite-values, method-values}
 use Rattle.rows.specs.Op.{opOf, heightOf}
 use Rattle.lines.specs.declared.Row.{Row}
@@ -62,7 +62,7 @@ abbrev pub boundsOf : Record → ℕ → ℕ → Bounds
 boundsOf r row least =
     record { row = row; «least_key» = least; objects = r .objects; formulas = r .«formula_count»; demarcations = r .«demarcation_count»; principals = r .«principal_count» }
 
-row-refused : (k : Kind) → HasTable k → (r : Record) (i : ℕ) {least : ℕ} (h : ℕ) (v : Row) → least ≡ leastKey k i r
+row-refused : (k : Kind) → HasTable k → (r : Record) (i : ℕ) {least : ℕ} (h : ℕ) (v : Row) → least ≡ minimumKey k i r
     → (code k ≡ code formula → h ≡ heightOf (opOf (v .a)) (v .b) (v .c) (height r i))
     → refusalBy k (boundsOf r i least) h v ≡ rowRefusal k i r (fieldsOf k v)
 row-refused head p r i h v e q = absurd (let l = p .low in omega arith)
@@ -86,7 +86,7 @@ has-table w = let e = w .table .known in let l = w .table .low in let h = w .tab
 pub record TakenLines (text : List ℕ) (kind : ℕ) (start : Stage) (c : Cursor) (r : Record) (n least : ℕ) (heights : List ℕ) : Type 0 where
   pub partway : Partway text (kindOf kind) start c r
   pub counted : n ≡ count (kindOf kind) r
-  pub lowest : least ≡ leastKey (kindOf kind) (count (kindOf kind) r) r
+  pub lowest : least ≡ minimumKey (kindOf kind) (count (kindOf kind) r) r
   pub high : kind ≡ code formula → Heights r heights (count formula r)
 
 pub taken-start : (text : List ℕ) {kind size : ℕ} → ReadableKind kind size → (s : Stage) → s .cursor .number ≡ 0 → Ready text (kindOf kind) s
@@ -96,7 +96,7 @@ taken-start text {kind} w s z r =
     record {
       partway = partway-start text (kindOf kind) s z r;
       counted = sym e;
-      lowest = ap (λ (n : ℕ). leastKey (kindOf kind) n (s .rules)) (sym e);
+      lowest = ap (λ (n : ℕ). minimumKey (kindOf kind) n (s .rules)) (sym e);
       high = λ q. heights-start (s .rules) (r .empty formula (let k = w .table .known in omega arith));
     }
 
@@ -180,7 +180,7 @@ module _ {text : List ℕ} {kind size : ℕ} {start : Stage} {c : Cursor} {r : R
           counted = ap (λ (m : ℕ). m + 1) (g .counted) ∙ sym (count-same (kindOf kind) r (fieldsOf (kindOf kind) v) low high) ∙ ap (count (kindOf kind)) grown;
           lowest =
               t .least ∙ sym (least-appended (kindOf kind) r (fieldsOf (kindOf kind) v) low high (g .partway .begun .sized) few)
-              ∙ ap (λ (s : Record). leastKey (kindOf kind) (count (kindOf kind) s) s) grown;
+              ∙ ap (λ (s : Record). minimumKey (kindOf kind) (count (kindOf kind) s) s) grown;
           high = λ f. taller f grown (tall f);
         }
       where
