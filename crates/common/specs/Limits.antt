@@ -48,8 +48,8 @@ abbrev pub highestRole : ℕ
 highestRole = 15
 
 -- "privileges (8 octets; privilege k has weight 2^k)"
-abbrev pub privileges : ℕ
-privileges = 64
+abbrev pub privilegeCount : ℕ
+privilegeCount = 64
 
 -- "Height: .. at most 8"
 abbrev pub greatestHeight : ℕ

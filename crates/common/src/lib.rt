@@ -76,7 +76,7 @@ pub const HIGHEST_LABEL: u8 = 15;
 
 pub const HIGHEST_ROLE: u8 = 15;
 
-pub const PRIVILEGES: usize = 64;
+pub const PRIVILEGE_COUNT: usize = 64;
 
 // A formula's height.
 pub const GREATEST_HEIGHT: u8 = 8;

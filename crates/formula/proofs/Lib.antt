@@ -1,3 +1,3 @@
-pub mod Laws
+pub mod VertexSets
 pub mod Recursion
-pub mod Roles
+pub mod RequestorRoles

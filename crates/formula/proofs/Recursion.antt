@@ -1,72 +1,159 @@
--- A formula by its parts: the recursion of the definition, as the evaluation goes through it.
+-- A formula by its parts, and an edge scan by its two passes: the recursion of the definition, as the evaluation goes through it.
 use Prim.Native.Nat.{ℕ, zero, suc, _<_, _≤_}
 use mathlib.Core.Path.{_≡_, refl, sym, _∙_, ap}
-use mathlib.Core.Bool.{Bool, false, _&&_, _||_}
+use mathlib.Core.Bool.{Bool, true, false, not, _&&_, _||_, and-assoc, and-or-distrib-left}
 use mathlib.Core.List.{List, [], _∷_}
 use native.Mathlib.Omega.{arith}
 use lib.Dec.{eqb}
-use borrow.Author.Tests.{eq-eqb, ne-eqb}
-use Rattle.common.specs.Lists.{at, any, table}
+use borrow.Author.Tests.{eq-eqb, ne-eqb, eqb-true}
+use Rattle.common.specs.Lists.{at}
 use Rattle.common.specs.ListLaws.{any-more}
-use Rattle.common.specs.Sets.{member}
+use Rattle.common.specs.BoolLaws.{and-false, and-cases, and-both, same-test}
 use Rattle.rows.specs.Op.{unknown, opOf}
-use Rattle.formula.specs.declared.Setting.{Setting}
-use Rattle.formula.specs.Formula.{leads, meaning, trueBelow}
-use Rattle.formula.specs.Evaluation.{has, some, reached, goes, edgesOf, means, trueIn}
-use Rattle.formula.specs.EvaluationLaws.{below-in}
-use Rattle.formula.proofs.Laws.{back-law}
+use Rattle.formula.specs.Formula.{Context, Formulas, leads, meaning, trueBelow}
+use Rattle.formula.specs.FormulaLaws.{some-edge, edge-some}
+use Rattle.formula.specs.Evaluation.{isIn, Among, edgesIn, formulaAt}
+use Rattle.formula.specs.EvaluationLaws.{below-out, below-in}
 
--- the edges one by one
-any-table : {A : Type 0} (p : A → Bool) (n : ℕ) (f : ℕ → A) → any p (table n f) ≡ some n (λ i. p (f i))
-any-table p zero f = refl
-any-table p (suc n) f = any-more p n f ∙ ap (λ (b : Bool). b || p (f n)) (any-table p n f) ∙ sym (any-more (λ i. p (f i)) n (λ i. i))
+-- the edges turned round
+turned : (n : ℕ) (labels from to : List ℕ) (a : ℕ) (p : ℕ → Bool) (v : ℕ)
+    → leads (edgesIn n labels to from) 1 2 a p v ≡ leads (edgesIn n labels from to) 2 1 a p v
+turned zero labels from to a p v = refl
+turned (suc n) labels from to a p v =
+    any-more (λ e. eqb (at e 0) a && (eqb (at e 1) v && p (at e 2))) n (λ i. at labels i ∷ at to i ∷ at from i ∷ [])
+    ∙ ap (λ (b : Bool). b || (eqb (at labels n) a && (eqb (at to n) v && p (at from n)))) (turned n labels from to a p v)
+    ∙ sym (any-more (λ e. eqb (at e 0) a && (eqb (at e 2) v && p (at e 1))) n (λ i. at labels i ∷ at from i ∷ at to i ∷ []))
 
-module _ (q : Setting) where
-  pub onward-goes : (a : ℕ) (p : ℕ → Bool) (v : ℕ) → goes (q .«edge_count») (q .labels) a (q .sources) (q .targets) p v ≡ leads (edgesOf q) 1 2 a p v
-  onward-goes a p v = sym (any-table (λ e. eqb (at e 0) a && (eqb (at e 1) v && p (at e 2))) (q .«edge_count») (λ i. at (q .labels) i ∷ at (q .sources) i ∷ at (q .targets) i ∷ []))
+-- r is the answer, of the asked vertices, for formula f
+module _ (fs : Formulas) (c : Context) (f : ℕ) {asked r : List Bool} where
+  -- a formula at or above n is true nowhere; one below n is what its parts make it
+  pub none-below : (n : ℕ) → n ≤ f → ((v : ℕ) → isIn r v ≡ false) → Among asked (trueBelow fs c n f) r
+  none-below n l h = record { members = λ v. h v ∙ sym (ap (λ (b : Bool). isIn asked v && b) (below-out fs c n f v l) ∙ and-false (isIn asked v)) }
 
-  pub backward-goes : (a : ℕ) (p : ℕ → Bool) (v : ℕ) → goes (q .«edge_count») (q .labels) a (q .targets) (q .sources) p v ≡ leads (edgesOf q) 2 1 a p v
-  backward-goes a p v = sym (any-table (λ e. eqb (at e 0) a && (eqb (at e 2) v && p (at e 1))) (q .«edge_count») (λ i. at (q .labels) i ∷ at (q .sources) i ∷ at (q .targets) i ∷ []))
+  pub true-below : (n : ℕ) → f < n → Among asked (formulaAt fs c f) r → Among asked (trueBelow fs c n f) r
+  unfolding trueBelow formulaAt
+  true-below n l h =
+      record {
+        members = λ v. h .members v ∙ ap (λ (b : Bool). isIn asked v && b) (sym (below-in fs c (suc f) n f v (omega arith) l ∙ rw (eq-eqb f f refl)));
+      }
 
-  pub true-at : (n f v : ℕ) → f < n → trueIn q n f v ≡ means q (opOf (at (q .ops) f)) (at (q .lefts) f) (at (q .rights) f) (trueIn q f) v
-  unfolding trueIn trueBelow
-  true-at n f v l = below-in q (suc f) n f v (omega arith) l ∙ rw (eq-eqb f f refl)
+  -- formula f by the number k of its op
+  pub by-op : (k : ℕ) → at (fs .ops) f ≡ k → Among asked (meaning c (opOf k) (at (fs .lefts) f) (at (fs .rights) f) (trueBelow fs c f)) r
+      → Among asked (formulaAt fs c f) r
+  unfolding formulaAt
+  by-op k e h =
+      record {
+        members =
+            λ v.
+            h .members v
+            ∙ ap (λ (o : ℕ). isIn asked v && meaning c (opOf o) (at (fs .lefts) f) (at (fs .rights) f) (trueBelow fs c f) v) (sym e);
+      }
 
-  -- an arm of `part`: the answer r at v, of the question x, where the op's number is k
-  pub arm : (n f v k : ℕ) → f < n → at (q .ops) f ≡ k → (x r : Bool) → r ≡ (x && means q (opOf k) (at (q .lefts) f) (at (q .rights) f) (trueIn q f) v) → r ≡ (x && trueIn q n f v)
-  arm n f v k l e x r h =
-      h ∙ ap (λ (o : ℕ). x && means q (opOf o) (at (q .lefts) f) (at (q .rights) f) (trueIn q f) v) (sym e) ∙ ap (λ (b : Bool). x && b) (sym (true-at n f v l))
+  -- t and u are the answers for the parts a and b
+  pub negated : {a : ℕ} {t : List Bool} → at (fs .ops) f ≡ 4 → a ≡ at (fs .lefts) f → Among asked (trueBelow fs c f a) t → Among asked (λ v. not (isIn t v)) r
+      → Among asked (formulaAt fs c f) r
+  unfolding meaning
+  negated op ea et er =
+      by-op 4 op (
+        record {
+          members = λ v. er .members v ∙ rw (et .members v, and-not) (λ j. isIn asked v && not (trueBelow fs c f (ea j) v));
+        }
+      )
+    where
+      and-not : (a b : Bool) → (a && not (a && b)) ≡ (a && not b)
+      and-not true b = refl
+      and-not false b = refl
 
-  -- the edge scan of formula f: what is marked from the asked vertices, its right part g there, and what comes back
-  pub scanned : (f g : ℕ) (from to : List ℕ) (asked marked found r : List Bool) → g ≡ at (q .rights) f
-      → ((w : ℕ) → has marked w ≡ reached (q .«edge_count») (q .labels) (at (q .lefts) f) from to asked w)
-      → ((w : ℕ) → has found w ≡ (has marked w && trueIn q f g w))
-      → ((v : ℕ) → has r v ≡ (has asked v && goes (q .«edge_count») (q .labels) (at (q .lefts) f) from to (has found) v))
-      → (v : ℕ) → has r v ≡ (has asked v && goes (q .«edge_count») (q .labels) (at (q .lefts) f) from to (trueIn q f (at (q .rights) f)) v)
-  scanned f g from to asked marked found r e m p b v =
-      b v
-      ∙ back-law (q .labels) (at (q .lefts) f) from to asked (q .«edge_count») found (trueIn q f g) (λ w. p w ∙ ap (λ (x : Bool). x && trueIn q f g w) (m w)) v
-      ∙ ap (λ (h : ℕ). has asked v && goes (q .«edge_count») (q .labels) (at (q .lefts) f) from to (trueIn q f h) v) e
+  pub both : {a b : ℕ} {t : List Bool} → at (fs .ops) f ≡ 5 → a ≡ at (fs .lefts) f → b ≡ at (fs .rights) f
+      → Among asked (trueBelow fs c f a) t → Among t (trueBelow fs c f b) r → Among asked (formulaAt fs c f) r
+  unfolding meaning
+  both op ea eb et er =
+      by-op 5 op (
+        record {
+          members =
+              λ v.
+              er .members v
+              ∙ rw (et .members v, and-assoc) (λ j. isIn asked v && (trueBelow fs c f (ea j) v && trueBelow fs c f (eb j) v));
+        }
+      )
 
--- an arm of `plain`: its answer r, of the asked vertices, where the op's number is k
-pub plain-arm : (roles object requestor op k a : ℕ) (asked r : List Bool) → op ≡ k → k ≤ 3
-    → ((edges : List (List ℕ)) (b : ℕ) (part : ℕ → ℕ → Bool) (v : ℕ) → has r v ≡ (has asked v && meaning (λ x. member x roles) edges object requestor (opOf k) a b part v))
-    → (op ≤ 3 → (edges : List (List ℕ)) (b : ℕ) (part : ℕ → ℕ → Bool) (v : ℕ) → has r v ≡ (has asked v && meaning (λ x. member x roles) edges object requestor (opOf op) a b part v))
-    × (3 < op → (v : ℕ) → has r v ≡ false)
-plain-arm roles object requestor op k a asked r e l h =
-    (λ s edges b part v. h edges b part v ∙ ap (λ (n : ℕ). has asked v && meaning (λ x. member x roles) edges object requestor (opOf n) a b part v) (sym e), λ s v. absurd (omega arith))
+  pub either : {a b : ℕ} {t u : List Bool} → at (fs .ops) f ≡ 6 → a ≡ at (fs .lefts) f → b ≡ at (fs .rights) f
+      → Among asked (trueBelow fs c f a) t → Among asked (trueBelow fs c f b) u → ((v : ℕ) → isIn r v ≡ (isIn t v || isIn u v))
+      → Among asked (formulaAt fs c f) r
+  unfolding meaning
+  either op ea eb et eu er =
+      by-op 6 op (
+        record {
+          members =
+              λ v.
+              er v
+              ∙ rw (et .members v, eu .members v, ← and-or-distrib-left) (λ j. isIn asked v && (trueBelow fs c f (ea j) v || trueBelow fs c f (eb j) v));
+        }
+      )
 
--- no op has a number above 8
-pub no-op : (op : ℕ) → 8 < op → opOf op ≡ unknown
-no-op op l =
-    rw (
-      ne-eqb op 0 (λ e. omega arith),
-      ne-eqb op 1 (λ e. omega arith),
-      ne-eqb op 2 (λ e. omega arith),
-      ne-eqb op 3 (λ e. omega arith),
-      ne-eqb op 4 (λ e. omega arith),
-      ne-eqb op 5 (λ e. omega arith),
-      ne-eqb op 6 (λ e. omega arith),
-      ne-eqb op 7 (λ e. omega arith),
-      ne-eqb op 8 (λ e. omega arith),
+  -- an edge scan from the edges' starts to their ends, and from their ends to their starts
+  pub forward : at (fs .ops) f ≡ 7 → Among asked (leads (c .edges) 1 2 (at (fs .lefts) f) (trueBelow fs c f (at (fs .rights) f))) r
+      → Among asked (formulaAt fs c f) r
+  unfolding meaning
+  forward op h = by-op 7 op h
+
+  pub backward : (n : ℕ) (labels from to : List ℕ) → edgesIn n labels from to ≡ c .edges → at (fs .ops) f ≡ 8
+      → Among asked (leads (edgesIn n labels to from) 1 2 (at (fs .lefts) f) (trueBelow fs c f (at (fs .rights) f))) r
+      → Among asked (formulaAt fs c f) r
+  unfolding meaning
+  backward n labels from to e op h =
+      by-op 8 op (
+        record {
+          members =
+              λ v.
+              h .members v
+              ∙ rw turned (λ j. isIn asked v && leads (e j) 2 1 (at (fs .lefts) f) (trueBelow fs c f (at (fs .rights) f)) v);
+        }
+      )
+
+  -- no op has a number above 8
+  pub no-op : 8 < at (fs .ops) f → ((v : ℕ) → isIn r v ≡ false) → Among asked (formulaAt fs c f) r
+  unfolding meaning formulaAt
+  no-op l h = record { members = λ v. h v ∙ sym (rw (unknown-op (at (fs .ops) f) l) (and-false (isIn asked v))) }
+    where
+      unknown-op : (op : ℕ) → 8 < op → opOf op ≡ unknown
+      unknown-op op l =
+          rw (
+            ne-eqb op 0 (λ e. omega arith),
+            ne-eqb op 1 (λ e. omega arith),
+            ne-eqb op 2 (λ e. omega arith),
+            ne-eqb op 3 (λ e. omega arith),
+            ne-eqb op 4 (λ e. omega arith),
+            ne-eqb op 5 (λ e. omega arith),
+            ne-eqb op 6 (λ e. omega arith),
+            ne-eqb op 7 (λ e. omega arith),
+            ne-eqb op 8 (λ e. omega arith),
+          )
+
+-- an edge scan: what is found where the edges end that start at asked vertices, Q there, says as much of these as Q itself
+pub scanned : (es : List (List ℕ)) (a b : ℕ) (Q : ℕ → ℕ → Bool) {asked reached found r : List Bool} {g : ℕ} → g ≡ b
+    → ((w : ℕ) → isIn reached w ≡ leads es 2 1 a (isIn asked) w) → Among reached (Q g) found → Among asked (leads es 1 2 a (isIn found)) r
+    → Among asked (leads es 1 2 a (Q b)) r
+scanned es a b Q {asked} {reached} {found} e reaches finds h = record { members = λ v. h .members v ∙ go v (isIn asked v) refl }
+  where
+    is-found : (w : ℕ) → isIn found w ≡ (leads es 2 1 a (isIn asked) w && Q b w)
+    is-found w = finds .members w ∙ (λ j. reaches w j && Q (e j) w)
+
+    go : (v : ℕ) (t : Bool) → isIn asked v ≡ t → (t && leads es 1 2 a (isIn found) v) ≡ (t && leads es 1 2 a (Q b) v)
+    go v false x = refl
+    go v true x = same-test (leads es 1 2 a (isIn found) v) (leads es 1 2 a (Q b) v) (
+      (λ t.
+      let (e, (i, p)) = some-edge _ es t in
+      let (l, q) = and-cases (eqb (at e 0) a) _ p in
+      let (m, q) = and-cases (eqb (at e 1) v) _ q in
+      let q = and-cases (leads es 2 1 a (isIn asked) (at e 2)) (Q b (at e 2)) (sym (is-found (at e 2)) ∙ q) .1 in
+      edge-some _ es e i (and-both (eqb (at e 0) a) _ l (and-both (eqb (at e 1) v) (Q b (at e 2)) m q))),
+      (λ t.
+      let (e, (i, p)) = some-edge _ es t in
+      let (l, q) = and-cases (eqb (at e 0) a) _ p in
+      let (m, q) = and-cases (eqb (at e 1) v) _ q in
+      let ends = and-both (eqb (at e 2) (at e 2)) (isIn asked (at e 1)) (eq-eqb (at e 2) (at e 2) refl) (ap (isIn asked) (eqb-true (at e 1) v m) ∙ x) in
+      let reached = edge-some (λ d. eqb (at d 0) a && (eqb (at d 2) (at e 2) && isIn asked (at d 1))) es e i (and-both (eqb (at e 0) a) _ l ends) in
+      let q = is-found (at e 2) ∙ and-both (leads es 2 1 a (isIn asked) (at e 2)) (Q b (at e 2)) reached q in
+      edge-some _ es e i (and-both (eqb (at e 0) a) _ l (and-both (eqb (at e 1) v) (isIn found (at e 2)) m q))),
     )

@@ -1,54 +1,42 @@
--- What the evaluation's functions answer: sets of vertices as tables of 256 bools.
+-- What the evaluation's functions answer: sets of vertices as tables of bools, on edges, formulas and users lent column by column.
 use Prim.Native.Nat.{ℕ}
 use mathlib.Core.Path.{_≡_}
 use mathlib.Core.Bool.{Bool, false, _&&_}
 use mathlib.Core.List.{List, [], _∷_}
 use lib.ListN.{getD}
 use lib.Dec.{eqb}
-use Rattle.common.specs.Lists.{at, any, below, table}
+use Rattle.common.specs.Lists.{at, any, table}
 use Rattle.common.specs.Sets.{member}
-use Rattle.rows.specs.Op.{Op}
-use Rattle.policy.specs.declared.Record.{Record}
-use Rattle.formula.specs.declared.Setting.{Setting}
-use Rattle.formula.specs.Formula.{holdsRole, meaning, trueBelow}
+use Rattle.rows.specs.Op.{opOf}
+use Rattle.formula.specs.declared.Request.{Request}
+use Rattle.formula.specs.Formula.{Context, Formulas, meaning, trueBelow}
 
 -- v is in the set
-abbrev pub has : List Bool → ℕ → Bool
-has t v = getD t v false
+abbrev pub isIn : List Bool → ℕ → Bool
+isIn t v = getD t v false
 
--- p holds of some number below n
-abbrev pub some : ℕ → (ℕ → Bool) → Bool
-some n p = any p (below n)
+-- r has, of the asked vertices, those where p holds
+pub record Among (asked : List Bool) (p : ℕ → Bool) (r : List Bool) : Type 0 where
+  pub members : (v : ℕ) → isIn r v ≡ (isIn asked v && p v)
 
--- some edge with the label, of n edges in columns, leads from a vertex of the set to v
-abbrev pub reached : ℕ → List ℕ → ℕ → List ℕ → List ℕ → List Bool → ℕ → Bool
-reached n labels label from to set v = some n (λ e. eqb (at labels e) label && (has set (at from e) && eqb (at to e) v))
+-- formulas in columns; the first n edges in columns
+abbrev pub formulasIn : List ℕ → List ℕ → List ℕ → Formulas
+formulasIn ops lefts rights = record { ops = ops; lefts = lefts; rights = rights }
 
--- some edge with the label leads from here to a vertex where p holds
-abbrev pub goes : ℕ → List ℕ → ℕ → List ℕ → List ℕ → (ℕ → Bool) → ℕ → Bool
-goes n labels label from to p here = some n (λ e. eqb (at labels e) label && (eqb (at from e) here && p (at to e)))
+abbrev pub edgesIn : ℕ → List ℕ → List ℕ → List ℕ → List (List ℕ)
+edgesIn n labels from to = table n (λ i. at labels i ∷ at from i ∷ at to i ∷ [])
 
--- a setting's edges
-abbrev pub edgesOf : Setting → List (List ℕ)
-edgesOf q = table (q .«edge_count») (λ i. at (q .labels) i ∷ at (q .sources) i ∷ at (q .targets) i ∷ [])
+-- a requestor who holds the roles in a set of weights; the request's, on edges in columns
+abbrev pub contextOf : ℕ → ℕ → ℕ → List (List ℕ) → Context
+contextOf roles object requestor edges = record { roles = λ a. member a roles; edges = edges; object = object; requestor = requestor }
 
--- the formula (op, a, b) in a setting, `part` for its parts, at v
-abbrev pub means : Setting → Op → ℕ → ℕ → (ℕ → ℕ → Bool) → ℕ → Bool
-means q op a b part v = meaning (λ x. member x (q .roles)) (edgesOf q) (q .object) (q .requestor) op a b part v
+abbrev pub contextIn : Request → List ℕ → List ℕ → List ℕ → Context
+contextIn q labels from to = contextOf (q .roles) (q .object) (q .requestor) (edgesIn (q .«edge_count») labels from to)
 
--- a setting's formula f, where it is below n, at v
-unfoldable pub trueIn : Setting → ℕ → ℕ → ℕ → Bool
-trueIn q n f v = trueBelow (q .ops) (q .lefts) (q .rights) (λ a. member a (q .roles)) (edgesOf q) (q .object) (q .requestor) n f v
+-- formula f by its parts, at v
+unfoldable pub formulaAt : Formulas → Context → ℕ → ℕ → Bool
+formulaAt fs c f v = meaning c (opOf (at (fs .ops) f)) (at (fs .lefts) f) (at (fs .rights) f) (trueBelow fs c f) v
 
--- a setting made of a record, for an object and a requestor
-pub record Sets (r : Record) (o s : ℕ) (q : Setting) : Type 0 where
-  pub count : q .«edge_count» ≡ r .«edge_count»
-  pub labels : q .labels ≡ r .«edge_labels»
-  pub sources : q .sources ≡ r .«edge_sources»
-  pub targets : q .targets ≡ r .«edge_targets»
-  pub ops : q .ops ≡ r .«formula_ops»
-  pub lefts : q .lefts ≡ r .«formula_lefts»
-  pub rights : q .rights ≡ r .«formula_rights»
-  pub roles : (a : ℕ) → member a (q .roles) ≡ holdsRole r s a
-  pub object : q .object ≡ o
-  pub requestor : q .requestor ≡ s
+-- one of the first n user lines in columns is that of s and has role a
+abbrev pub holdsRoleIn : ℕ → List ℕ → List ℕ → ℕ → ℕ → Bool
+holdsRoleIn n objects roles s a = any (λ u. eqb (at u 0) s && member a (at u 1)) (table n (λ i. at objects i ∷ at roles i ∷ []))

@@ -8,10 +8,10 @@ use lib.Dec.{eqb}
 use borrow.Author.Tests.{eqb-true, eq-eqb}
 use Rattle.common.specs.Lists.{at, any, same}
 use Rattle.common.specs.BoolLaws.{and-cases, and-both, or-cases, or-left, or-right, same-test}
-use Rattle.rows.specs.Op.{Op, always, requestor, object, role, negation, conjunction, disjunction, onward, backward, unknown, opOf}
+use Rattle.rows.specs.Op.{Op, always, requestor, object, role, negation, conjunction, disjunction, forward, backward, unknown, opOf}
 use Rattle.policy.specs.declared.Record.{Record}
 use Rattle.policy.specs.Edits.{edgeIn}
-use Rattle.formula.specs.Formula.{holdsRole, leads, meaning, trueBelow, holdsOn}
+use Rattle.formula.specs.Formula.{Context, Formulas, leads, meaning, trueBelow, formulasOf, contextOn, holdsOn}
 
 -- rows that are the same by test are equal
 same-is : (l m : List ℕ) → same l m ≡ true → l ≡ m
@@ -26,7 +26,7 @@ same-self (x ∷ l) = and-both (eqb x x) _ (eq-eqb x x refl) (same-self l)
 
 module _ (p : List ℕ → Bool) where
   -- some edge passes: it is one of them
-  some-edge : (es : List (List ℕ)) → any p es ≡ true → (e : List ℕ) × ((edgeIn es e ≡ true) × (p e ≡ true))
+  pub some-edge : (es : List (List ℕ)) → any p es ≡ true → (e : List ℕ) × ((edgeIn es e ≡ true) × (p e ≡ true))
   some-edge [] h = absurd (false≢true h)
   some-edge (e ∷ es) h =
       ⊎-elim
@@ -34,7 +34,7 @@ module _ (p : List ℕ → Bool) where
       (λ t. let x = some-edge es t in (x .0, (or-right (same (x .0) e) (edgeIn es (x .0)) (x .1 .0), x .1 .1)))
       (or-cases (p e) (any p es) h)
 
-  edge-some : (es : List (List ℕ)) (e : List ℕ) → edgeIn es e ≡ true → p e ≡ true → any p es ≡ true
+  pub edge-some : (es : List (List ℕ)) (e : List ℕ) → edgeIn es e ≡ true → p e ≡ true → any p es ≡ true
   edge-some [] e h t = absurd (false≢true h)
   edge-some (f ∷ es) e h t =
       ⊎-elim
@@ -49,8 +49,13 @@ module _ (p : List ℕ → Bool) where
         (λ t. let x = some-edge fs t in edge-some es (x .0) (h (x .0) ∙ x .1 .0) (x .1 .1)),
       )
 
-module _ (roles : ℕ → Bool) (es fs : List (List ℕ)) (o s : ℕ) (same-set : (e : List ℕ) → edgeIn es e ≡ edgeIn fs e) where
-  same-meaning : (op : Op) (a b : ℕ) (p q : ℕ → ℕ → Bool) → ((g v : ℕ) → p g v ≡ q g v) → (here : ℕ) → meaning roles es o s op a b p here ≡ meaning roles fs o s op a b q here
+module _ (c : Context) (es : List (List ℕ)) (same-set : (e : List ℕ) → edgeIn (c .edges) e ≡ edgeIn es e) where
+  -- the context with the edges es
+  abbrev on : Context
+  on = record { roles = c .roles; edges = es; object = c .object; requestor = c .requestor }
+
+  same-meaning : (op : Op) (a b : ℕ) (p q : ℕ → ℕ → Bool) → ((g v : ℕ) → p g v ≡ q g v) → (here : ℕ)
+      → meaning c op a b p here ≡ meaning on op a b q here
   unfolding meaning
   same-meaning always a b p q h here = refl
   same-meaning requestor a b p q h here = refl
@@ -59,19 +64,20 @@ module _ (roles : ℕ → Bool) (es fs : List (List ℕ)) (o s : ℕ) (same-set 
   same-meaning negation a b p q h here = ap not (h a here)
   same-meaning conjunction a b p q h here = λ j. h a here j && h b here j
   same-meaning disjunction a b p q h here = λ j. h a here j || h b here j
-  same-meaning onward a b p q h here = same-any _ es fs same-set ∙ (λ j. leads fs 1 2 a (λ v. h b v j) here)
-  same-meaning backward a b p q h here = same-any _ es fs same-set ∙ (λ j. leads fs 2 1 a (λ v. h b v j) here)
+  same-meaning forward a b p q h here = same-any _ (c .edges) es same-set ∙ (λ j. leads es 1 2 a (λ v. h b v j) here)
+  same-meaning backward a b p q h here = same-any _ (c .edges) es same-set ∙ (λ j. leads es 2 1 a (λ v. h b v j) here)
   same-meaning unknown a b p q h here = refl
 
-  same-below : (ops lefts rights : List ℕ) (n f here : ℕ) → trueBelow ops lefts rights roles es o s n f here ≡ trueBelow ops lefts rights roles fs o s n f here
+  same-below : (fs : Formulas) (n f here : ℕ) → trueBelow fs c n f here ≡ trueBelow fs on n f here
   unfolding trueBelow
-  same-below ops lefts rights zero f here = refl
-  same-below ops lefts rights (suc n) f here =
+  same-below fs zero f here = refl
+  same-below fs (suc n) f here =
       λ j. cond (eqb f n)
-      (same-meaning (opOf (at ops f)) (at lefts f) (at rights f) (trueBelow ops lefts rights roles es o s n) (trueBelow ops lefts rights roles fs o s n) (same-below ops lefts rights n) here j)
-      (same-below ops lefts rights n f here j)
+      (same-meaning (opOf (at (fs .ops) f)) (at (fs .lefts) f) (at (fs .rights) f) (trueBelow fs c n) (trueBelow fs on n) (same-below fs n) here j)
+      (same-below fs n f here j)
 
 -- THE LAW
-pub same-edges : (r : Record) (es fs : List (List ℕ)) (f here o s : ℕ) → ((e : List ℕ) → edgeIn es e ≡ edgeIn fs e) → holdsOn r es f here o s ≡ holdsOn r fs f here o s
+pub same-edges : (r : Record) (es fs : List (List ℕ)) (f here o s : ℕ) → ((e : List ℕ) → edgeIn es e ≡ edgeIn fs e)
+    → holdsOn r es f here o s ≡ holdsOn r fs f here o s
 unfolding holdsOn
-same-edges r es fs f here o s h = same-below (holdsRole r s) es fs o s h (r .«formula_ops») (r .«formula_lefts») (r .«formula_rights») (r .«formula_count») f here
+same-edges r es fs f here o s h = same-below (contextOn r es o s) fs h (formulasOf r) (r .«formula_count») f here

@@ -7,7 +7,7 @@ ghost use mathlib.Core.List.{[]};
 ghost use Prim.Native.Nat.{ℕ, _^_, _≤_, _<_};
 ghost use lib.Bits.{bitOr};
 ghost use lib.ListN.{getD};
-ghost use Rattle.common.specs.Limits.{mostUsers, mostPrincipals, mostExclusions, privileges};
+ghost use Rattle.common.specs.Limits.{mostUsers, mostPrincipals, mostExclusions, privilegeCount};
 ghost use Rattle.common.specs.Lists.{at};
 ghost use Rattle.common.specs.Sets.{member, In};
 ghost use Rattle.closure.specs.Closure.{pairsOf, reaches};
@@ -53,7 +53,7 @@ fn index(x: u8) -> usize
 
 // The privileges that a method lists: 64 at most.
 fn listed(privileges: u64) -> u64
-    ensures { λ r. ⌜ (r ≡ privileges) × (r < 2 ^ privileges) ⌝ }
+    ensures { λ r. ⌜ (r ≡ privileges) × (r < 2 ^ privilegeCount) ⌝ }
 {
     privileges
 }
@@ -276,8 +276,10 @@ pub fn enabled_of(rules: Record, question: Question, among: u32) -> u32
     let mut s: u32 = 0;
     let mut p: usize = 0;
     while p < n {
-        if search::has(among, p) {
-            let f = index(rules.principal_formulas[p]);
+        let member = p;
+        p += 1;
+        if search::has(among, member) {
+            let f = index(rules.principal_formulas[member]);
             let value = formula::true_at_object(
                 rules.edge_count,
                 &rules.edge_labels,
@@ -291,10 +293,9 @@ pub fn enabled_of(rules: Record, question: Question, among: u32) -> u32
                 requestor,
                 f,
             );
-            let more = marked(s, p, value);
+            let more = marked(s, member, value);
             s = more;
         }
-        p += 1;
     }
     s
 }

@@ -1,17 +1,18 @@
 -- `minus` meets its contract.
-use native.Mathlib.Nat.{not-suc-le-zero}
-use mathlib.Core.Path.{_≡_}
-use mathlib.Core.Bool.{false, not, _&&_}
 use Prim.Native.Nat.{ℕ, _-_, _<_, _≤_}
+use mathlib.Core.Path.{_≡_}
+use mathlib.Core.Bool.{not, _&&_}
+use native.Mathlib.Nat.{not-suc-le-zero}
 use native.Mathlib.Omega.{arith}
-use lib.ListN.{length, getD, length-set}
-use Rattle.formula.proofs.Laws.{beyond, everywhere, filled}
+use lib.ListN.{length, length-set}
+use Rattle.formula.specs.Evaluation.{isIn}
+use Rattle.formula.proofs.VertexSets.{beyond, everywhere, filled}
 use borrow.Author.Needs.{needs}
 use Rattle.formula.proofs.minus.Statement.{statement}
 use Rattle.formula.proofs.minus.Tie as tie
 
 abbrev Inv-loop : tie.InvT-loop
-Inv-loop asked t r₀ i₀ r i = (i ≤ 256) × (length r ≡ 256) × ((v : ℕ) → v < i → getD r v false ≡ (getD asked v false && not (getD t v false)))
+Inv-loop asked t r₀ i₀ r i = ((v : ℕ) → v < i → isIn r v ≡ (isIn asked v && not (isIn t v))) × (length r ≡ 256) × (i ≤ 256)
 
 abbrev μ-loop : tie.MeasureT-loop
 μ-loop asked t r₀ i₀ r i = 256 - i
@@ -20,7 +21,7 @@ none-requires : tie.Need-none-requires Inv-loop μ-loop
 none-requires c κs = search needs
 
 loop-holds : tie.Need-loop-holds Inv-loop μ-loop
-loop-holds c = (omega arith, c .none .ensures .0, λ v l. absurd (not-suc-le-zero l))
+loop-holds c = (λ v l. absurd (not-suc-le-zero l), c .none .ensures .0, omega arith)
 
 array-read-r : tie.Need-array-read-r Inv-loop μ-loop
 array-read-r c = search needs
@@ -38,14 +39,21 @@ loop-less : tie.Need-loop-less Inv-loop μ-loop
 loop-less c = search needs
 
 loop-again : tie.Need-loop-again Inv-loop μ-loop
-loop-again c = (omega arith, simp length-set (c .before .loop .inv .1), filled (λ v. getD (c .before .before .before .args .t1) v false && not (getD (c .before .before .before .args .t2) v false)) (c .before .loop .r) (c .before .loop .i) (omega arith) (c .before .loop .inv .2))
+loop-again c =
+    let l = c .before in
+    let a = l .before .before .args in
+    (filled (λ v. isIn (a .t1) v && not (isIn (a .t2) v)) (l .loop .r) (l .loop .i) (omega arith) (l .loop .inv .0), simp length-set (l .loop .inv .1), omega arith)
 
 returns : tie.Need-returns Inv-loop μ-loop
 returns c =
-    let a = c .before .before .before .args in
-    everywhere (λ v. getD (a .t1) v false && not (getD (a .t2) v false)) (c .before .loop .r) (c .before .loop .inv .1)
-    (λ v l. c .before .loop .inv .2 v (omega arith))
-    (λ v h. rw (beyond (a .t1) 256 v (c .before .before .before .good .0 .1 .0 .1) h))
+    let l = c .before in
+    let a = l .before .before .args in
+    record {
+      members =
+          everywhere (λ v. isIn (a .t1) v && not (isIn (a .t2) v)) (l .loop .r) (l .loop .inv .1)
+          (λ v h. l .loop .inv .0 v (omega arith))
+          (λ v h. rw (beyond (a .t1) 256 v (l .before .before .good .0 .1 .0 .1) h));
+    }
 
 pub minus-spec : {M : Type 1} → statement M
 minus-spec =

@@ -1,6 +1,6 @@
 -- `none` meets its contract.
 use mathlib.Core.Path.{refl}
-use Rattle.formula.proofs.Laws.{all-false}
+use Rattle.formula.proofs.VertexSets.{all-false}
 use Rattle.formula.proofs.none.Statement.{statement}
 use Rattle.formula.proofs.none.Tie as tie
 

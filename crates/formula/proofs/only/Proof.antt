@@ -1,10 +1,11 @@
 -- `only` meets its contract.
 use mathlib.Core.Path.{_∙_}
-use mathlib.Core.Bool.{false}
 use Prim.Native.Nat.{_<_}
 use native.Mathlib.Omega.{arith}
-use lib.ListN.{length, getD}
-use Rattle.formula.proofs.Laws.{stored, picked}
+use lib.ListN.{length}
+use Rattle.formula.specs.Evaluation.{isIn}
+use Rattle.formula.proofs.VertexSets.{stored, picked}
+use borrow.Author.Needs.{needs}
 use borrow.Author.Needs.{needs}
 use Rattle.formula.proofs.only.Statement.{statement}
 use Rattle.formula.proofs.only.Tie as tie
@@ -12,21 +13,28 @@ use Rattle.formula.proofs.only.Tie as tie
 none-requires : tie.Need-none-requires
 none-requires c κs = search needs
 
-place-requires : tie.Need-place-requires
-place-requires c κs = search needs
+index-requires : tie.Need-index-requires
+index-requires c κs = search needs
 
-array-read-r : tie.Need-array-read-r
-array-read-r c = search needs
+element-copy-out-r : tie.Need-element-copy-out-r
+element-copy-out-r c = search needs
 
 array-write-r : tie.Need-array-write-r
 array-write-r c = search needs
 
 returns : tie.Need-returns
 returns c =
-    let h : c .place .result < length (c .before .none .result) = omega (arith, c .place .ensures .1, c .before .none .ensures .0) in
-    λ v.
-    stored (c .before .none .result) (c .place .result) (getD (c .before .before .args .t1) (c .place .result) false) v h
-    ∙ rw (c .before .none .ensures .1 v, c .place .ensures .0) (picked (c .before .before .args .t1) (c .before .before .args .x) v)
+    let a = c .before .before .before .args in
+    let none = c .before .before .none in
+    let i = c .before .index in
+    let h : i .result < length (none .result) = omega (arith, i .ensures .1, none .ensures .0) in
+    record {
+      members =
+          λ v.
+          stored (none .result) (i .result) (isIn (a .asked .now) (i .result)) v h
+          ∙ rw (none .ensures .1 v, i .ensures .0) (picked (a .asked .now) (a .x) v);
+    }
 
 pub only-spec : {M : Type 1} → statement M
-only-spec = tie.close (tie.spec none-requires place-requires array-read-r array-write-r returns)
+only-spec =
+    tie.close (tie.spec none-requires index-requires element-copy-out-r array-write-r returns)

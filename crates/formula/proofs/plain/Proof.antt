@@ -1,12 +1,11 @@
 -- `plain` meets its contract.
-use mathlib.Core.Path.{sym, _∙_, ap}
+use mathlib.Core.Path.{_≡_, sym, _∙_, ap}
 use mathlib.Core.Bool.{Bool, _&&_}
 use native.Mathlib.Omega.{arith}
 use borrow.Author.Needs.{needs}
 use Rattle.common.specs.BoolLaws.{and-false, and-true}
 use Rattle.formula.specs.Formula.{meaning}
-use Rattle.formula.specs.Evaluation.{has}
-use Rattle.formula.proofs.Recursion.{plain-arm}
+use Rattle.formula.specs.Evaluation.{isIn}
 use Rattle.formula.proofs.plain.Statement.{statement}
 use Rattle.formula.proofs.plain.Tie as tie
 
@@ -22,45 +21,39 @@ holds-role-requires c κs = search needs
 none-requires : tie.Need-none-requires
 none-requires c κs = search needs
 
-none-requires-2 : tie.Need-none-requires-2
-none-requires-2 c κs = search needs
-
 returns : tie.Need-returns
 unfolding meaning
-returns c =
-    let a = c .before .args in
-    plain-arm (a .roles) (a .object) (a .requestor) (a .op) 0 (a .left) (a .asked) (a .asked) (c .match .keys1) (omega arith) (λ edges b part v. sym (and-true (has (a .asked) v)))
+returns c = λ edges b part. record { members = λ v. rw (c .before .match .keys1) (sym (and-true (isIn (c .before .before .args .asked .now) v))) }
 
 returns-2 : tie.Need-returns-2
 unfolding meaning
-returns-2 c =
-    let a = c .before .before .args in
-    plain-arm (a .roles) (a .object) (a .requestor) (a .op) 1 (a .left) (a .asked) (c .only .result) (c .before .match .keys2) (omega arith) (λ edges b part v. c .only .ensures v)
+returns-2 c = λ edges b part. record { members = λ v. rw (c .before .match .keys2) (c .only .ensures .members v) }
 
 returns-3 : tie.Need-returns-3
 unfolding meaning
-returns-3 c =
-    let a = c .before .before .args in
-    plain-arm (a .roles) (a .object) (a .requestor) (a .op) 2 (a .left) (a .asked) (c .only2 .result) (c .before .match .keys3) (omega arith) (λ edges b part v. c .only2 .ensures v)
+returns-3 c = λ edges b part. record { members = λ v. rw (c .before .match .keys3) (c .only2 .ensures .members v) }
+
+-- past ops 0 to 2: op 3, and whether the requestor holds the role
+module _ (c : tie.After-holds-role) where
+  abbrev start : tie.Start
+  start = c .before .before
+
+  role-op : start .args .op ≡ 3
+  role-op = omega arith
 
 returns-4 : tie.Need-returns-4
 unfolding meaning
 returns-4 c =
-    let m = c .before .before in
-    let a = m .before .args in
-    plain-arm (a .roles) (a .object) (a .requestor) (a .op) 3 (a .left) (a .asked) (a .asked) (m .match .keys4) (omega arith)
-    (λ edges b part v. sym (ap (λ (x : Bool). has (a .asked) v && x) (sym (c .before .holds-role .ensures) ∙ c .if1 .taken) ∙ and-true (has (a .asked) v)))
+    let held = c .before .before in
+    let asked = start held .args .asked .now in
+    λ edges b part. record { members = λ v. rw (role-op held) (sym (ap (λ (x : Bool). isIn asked v && x) (sym (held .holds-role .ensures) ∙ c .before .if1 .taken) ∙ and-true (isIn asked v))) }
 
 returns-5 : tie.Need-returns-5
 unfolding meaning
 returns-5 c =
-    let m = c .before .before .before in
-    let a = m .before .args in
-    plain-arm (a .roles) (a .object) (a .requestor) (a .op) 3 (a .left) (a .asked) (c .none .result) (m .match .keys4) (omega arith)
-    (λ edges b part v. c .none .ensures .1 v ∙ sym (ap (λ (x : Bool). has (a .asked) v && x) (sym (c .before .before .holds-role .ensures) ∙ c .before .if1 .left) ∙ and-false (has (a .asked) v)))
-
-returns-6 : tie.Need-returns-6
-returns-6 c = (λ l. absurd (omega arith), λ l. c .none2 .ensures .1)
+    let held = c .before .before in
+    let asked = start held .args .asked .now in
+    λ edges b part. record { members = λ v. rw (role-op held) (c .none .ensures .1 v ∙ sym (ap (λ (x : Bool). isIn asked v && x) (sym (held .holds-role .ensures) ∙ c .before .if1 .left) ∙ and-false (isIn asked v))) }
 
 pub plain-spec : {M : Type 1} → statement M
 plain-spec =
@@ -70,10 +63,8 @@ plain-spec =
     only-requires-2
     holds-role-requires
     none-requires
-    none-requires-2
     returns
     returns-2
     returns-3
     returns-4
-    returns-5
-    returns-6)
+    returns-5)

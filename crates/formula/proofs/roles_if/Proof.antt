@@ -1,6 +1,6 @@
 -- `roles_if` meets its contract.
 use mathlib.Core.Path.{refl, sym, _∙_}
-use Rattle.formula.proofs.Roles.{member-none}
+use Rattle.formula.proofs.RequestorRoles.{member-none}
 use Rattle.formula.proofs.roles_if.Statement.{statement}
 use Rattle.formula.proofs.roles_if.Tie as tie
 

@@ -1,44 +1,143 @@
--- `enabled_of` meets its contract.
-use Prim.Native.Nat.{ℕ, _<_}
+-- `enabled_of` meets its contract: what is evaluated on the columns of the record is what its formulas mean.
+use Prim.Native.Nat.{ℕ, _-_, _≤_, _<_}
 use mathlib.Core.Path.{_≡_, refl, sym, _∙_, ap}
-use Rattle.common.specs.Lists.{at}
-use Rattle.policy.specs.declared.Record.{Record}
-use Rattle.formula.specs.Formula.{holds}
-use Rattle.formula.specs.Evaluation.{trueIn}
-use Rattle.justification.specs.declared.Question.{Question}
-use Rattle.justification.specs.Predicates.{isEnabled}
+use mathlib.Core.Bool.{Bool, true, false≢true}
 use native.Mathlib.Omega.{arith}
+use borrow.Author.Needs.{needs}
+use Rattle.common.specs.Limits.{mostFormulas, mostPrincipals}
+use Rattle.common.specs.Lists.{at}
+use Rattle.common.specs.Sets.{In}
+use Rattle.policy.specs.declared.Record.{Record}
 use Rattle.policy.specs.Table.{user, edge, formula, principal}
 use Rattle.policy.specs.LoadableLaws.{table-few}
-use Rattle.formula.specs.EvaluationLaws.{setting-holds}
+use Rattle.formula.specs.Formula.{trueBelow, holds}
+use Rattle.formula.specs.Evaluation.{formulasIn, edgesIn, contextOf}
+use Rattle.formula.specs.EvaluationLaws.{true-at-holds}
+use Rattle.justification.specs.declared.Question.{Question}
+use Rattle.justification.specs.Predicates.{isEnabled}
 use Rattle.justification.specs.NamedLaws.{principal-named}
+use Rattle.justification.specs.Parts.{Those}
+use Rattle.justification.proofs.Marking.{those-none, those-more, those-skip, those-end}
 use Rattle.justification.proofs.enabled_of.Statement.{statement}
 use Rattle.justification.proofs.enabled_of.Tie as tie
+
+-- formula f on the columns of a record, at the object
+abbrev true-on : Record → ℕ → ℕ → ℕ → ℕ → Bool
+true-on r roles o s f =
+    trueBelow (formulasIn (r .«formula_ops») (r .«formula_lefts») (r .«formula_rights»))
+    (contextOf roles o s (edgesIn (r .«edge_count») (r .«edge_labels») (r .«edge_sources») (r .«edge_targets»))) mostFormulas f o
+
+abbrev Inv-loop : tie.InvT-loop
+Inv-loop among rules n object requestor roles s₀ p₀ s p =
+    Those p (λ k. (In k among) × (true-on rules roles object requestor (at (rules .«principal_formulas») k) ≡ true)) s × (p ≤ n)
+
+abbrev μ-loop : tie.MeasureT-loop
+μ-loop among rules n object requestor roles s₀ p₀ s p = n - p
 
 is-enabled : (r : Record) (q : Question) (p : ℕ)
     → holds r (at (r .«principal_formulas») p) (q .object) (q .object) (q .requestor) ≡ isEnabled r q p
 unfolding isEnabled
 is-enabled r q p = refl
 
-setting-of-requires : tie.Need-setting-of-requires
-setting-of-requires c κs = table-few _ user (c .pre user)
+-- the places passed: the function's entry from the loop, the index of a formula from where the columns were lent, the loop's test from there
+abbrev entry : tie.At-loop Inv-loop μ-loop → tie.Start Inv-loop μ-loop
+entry a = a .before .before .before .before .before
 
-true-ones-requires : tie.Need-true-ones-requires
-true-ones-requires c κs = let s = c .before .before in (omega (arith, c .before .«setting-of» .ensures .count, table-few _ edge (s .pre edge)), table-few _ principal (s .pre principal))
+abbrev lent : tie.After-true-at-object-arg6 Inv-loop μ-loop → tie.After-index Inv-loop μ-loop
+lent c = c .before .before .before .before .before .before .before
 
-returns : tie.Need-returns
+abbrev in-loop : tie.After-index Inv-loop μ-loop → tie.In-loop Inv-loop μ-loop
+in-loop c = c .before .before .before .before
+
+few : (i : tie.In-loop Inv-loop μ-loop) → i .before .loop .p < mostPrincipals
+few i = let n = table-few _ principal (entry (i .before) .pre principal) in omega (arith, i .loop-test .taken, n)
+
+roles-of-requires : tie.Need-roles-of-requires Inv-loop μ-loop
+roles-of-requires c κs = let s = c .before .before .before in table-few _ user (s .pre user)
+
+loop-holds : tie.Need-loop-holds Inv-loop μ-loop
+loop-holds c = (those-none _, omega arith)
+
+add-p : tie.Need-add-p Inv-loop μ-loop
+add-p c = omega (arith, few c)
+
+has-requires : tie.Need-has-requires Inv-loop μ-loop
+has-requires c κs = omega (arith, few c)
+
+element-copy-out-index : tie.Need-element-copy-out-index Inv-loop μ-loop
+element-copy-out-index c = few (c .before .before)
+
+index-requires : tie.Need-index-requires Inv-loop μ-loop
+index-requires c κs = search needs
+
+true-at-object-requires : tie.Need-true-at-object-requires Inv-loop μ-loop
+true-at-object-requires c κs = table-few _ edge (entry (in-loop (lent c) .before) .pre edge)
+
+marked-requires : tie.Need-marked-requires Inv-loop μ-loop
+marked-requires c κs = few (in-loop (lent (c .before)))
+
+loop-less : tie.Need-loop-less Inv-loop μ-loop
+loop-less c = search needs
+
+loop-again : tie.Need-loop-again Inv-loop μ-loop
+loop-again c =
+    let t = c .before in
+    let x = lent (t .before) in
+    let h = x .before .before .before in
+    let i = in-loop x in
+    let a = entry (i .before) .args in
+    let is =
+    t .true-at-object .ensures
+    ∙ ap (λ (f : ℕ). true-on (a .t1) (i .before .before .roles-of .result) (a .question .object) (a .question .requestor) f) (x .index .ensures) in
+    (those-more (i .before .loop .inv .0) (t .true-at-object .result)
+    (record {
+      yes = λ e. (h .has .ensures .yes (x .before .before .if1 .taken), sym is ∙ e);
+      no = λ e y. false≢true (sym e ∙ is ∙ y .1);
+    })
+    (c .marked .ensures), omega (arith, i .loop-test .taken))
+
+loop-less-2 : tie.Need-loop-less-2 Inv-loop μ-loop
+loop-less-2 c = search needs
+
+loop-again-2 : tie.Need-loop-again-2 Inv-loop μ-loop
+loop-again-2 c =
+    let i = c .before .before in
+    (those-skip (i .before .loop .inv .0) (λ y. c .before .has .ensures .no (c .if1 .left) (y .0)), omega (arith, i .loop-test .taken))
+
+returns : tie.Need-returns Inv-loop μ-loop
 returns c =
-    let s = c .before .before .before in
-    let r = s .args .rules in
-    let made = c .before .before .«setting-of» .ensures in
-    let q = c .before .before .«setting-of» .result in
-    let found = c .«true-ones» .ensures in
-    let same : (p : ℕ) → p < r .«principal_count» → trueIn q 64 (at (r .«principal_formulas») p) (q .object) ≡ isEnabled r (s .args .question) p = λ p l. setting-holds r (s .args .question .object) (s .args .question .requestor) q made (at (r .«principal_formulas») p) (q .object) (principal-named r (s .pre) p l .0) (table-few r formula (s .pre formula))
-    ∙ ap (λ (v : ℕ). holds r (at (r .«principal_formulas») p) v (s .args .question .object) (s .args .question .requestor)) (made .object) ∙ is-enabled r (s .args .question) p in
+    let a = c .before in
+    let s = entry a in
+    let r = s .args .t1 in
+    let q = s .args .question in
+    let roles = a .before .roles-of .result in
+    let same : (p : ℕ) → p < r .«principal_count» → true-on r roles (q .object) (q .requestor) (at (r .«principal_formulas») p) ≡ isEnabled r q p =
+    λ p l.
+        true-at-holds r (at (r .«principal_formulas») p) (q .object) (q .requestor) roles (a .before .roles-of .ensures)
+        (principal-named r (s .pre) p l .0) (table-few r formula (s .pre formula))
+        ∙ is-enabled r q p in
+    let found = those-end {n = r .«principal_count»} (omega (arith, c .loop-test .left, a .loop .inv .1)) (a .loop .inv .0) in
     record {
       only = λ p i. let (l, x) = found .only p i in (l, (x .0, sym (same p l) ∙ x .1));
       all = λ p l x. found .all p l (x .0, same p l ∙ x .1);
     }
 
 pub enabled-of-spec : {M : Type 1} → statement M
-enabled-of-spec = tie.close (tie.spec setting-of-requires true-ones-requires returns)
+enabled-of-spec =
+    tie.close
+    (tie.spec
+    Inv-loop
+    μ-loop
+    roles-of-requires
+    loop-holds
+    add-p
+    has-requires
+    element-copy-out-index
+    index-requires
+    true-at-object-requires
+    marked-requires
+    loop-less
+    loop-again
+    loop-less-2
+    loop-again-2
+    returns)

@@ -1,45 +1,63 @@
 -- `masks_of` meets its contract.
-use mathlib.Core.Path.{refl}
+use mathlib.Core.Path.{refl, _∙_}
 use native.Mathlib.Omega.{arith}
-use Rattle.policy.specs.Table.{principal, method}
-use Rattle.policy.specs.LoadableLaws.{table-few}
 use borrow.Author.Needs.{needs}
+use Rattle.policy.specs.Table.{principal, exclusion, prerequisite, method}
+use Rattle.policy.specs.LoadableLaws.{prerequisite-pairs, table-few}
+use Rattle.justification.specs.NamedLaws.{exclusion-named}
 use Rattle.justification.proofs.masks_of.Statement.{statement}
 use Rattle.justification.proofs.masks_of.Tie as tie
 
-excludes-of-requires : tie.Need-excludes-of-requires
-excludes-of-requires c κs = search needs
+-- the places passed, from the masks back to the function's entry
+abbrev exclusions-made : tie.After-grants-of → tie.After-excludes-of
+exclusions-made c = c .before .before .before .before
 
-needs-of-requires : tie.Need-needs-of-requires
-needs-of-requires c κs = search needs
+abbrev entry : tie.After-excludes-of → tie.Start
+entry c = c .before .before .before .before
+
+excludes-of-requires : tie.Need-excludes-of-requires
+excludes-of-requires c κs =
+    let s = c .before .before .before in
+    (table-few _ exclusion (s .pre .0 exclusion), λ i l. exclusion-named (s .args .t1) (s .pre .0) i l)
+
+leading-to-requires : tie.Need-leading-to-requires
+leading-to-requires c κs =
+    let s = entry (c .before .before) in
+    (prerequisite-pairs (s .args .t1) ∙ s .pre .0 prerequisite, table-few (s .args .t1) principal (s .pre .0 principal))
 
 grants-of-requires : tie.Need-grants-of-requires
-grants-of-requires c κs = search needs
+grants-of-requires c κs = entry (c .before .before .before) .pre .0
 
 mul-listed : tie.Need-mul-listed
-mul-listed c = let n = table-few _ method (c .before .before .before .pre .0 method) in omega (arith, c .before .before .before .pre .1)
+mul-listed c = let s = entry (exclusions-made c) in let n = table-few _ method (s .pre .0 method) in omega (arith, s .pre .1)
 
 element-copy-out-listed : tie.Need-element-copy-out-listed
-element-copy-out-listed c = let n = table-few _ method (c .before .before .before .pre .0 method) in omega (arith, c .before .before .before .pre .1)
+element-copy-out-listed c = let s = entry (exclusions-made c) in let n = table-few _ method (s .pre .0 method) in omega (arith, s .pre .1)
 
 listed-requires : tie.Need-listed-requires
 listed-requires c κs = search needs
 
-element-copy-out-t16 : tie.Need-element-copy-out-t16
-element-copy-out-t16 c = let n = table-few _ method (c .before .before .before .before .before .pre .0 method) in omega (arith, c .before .before .before .before .before .pre .1)
+element-copy-out-t21 : tie.Need-element-copy-out-t21
+element-copy-out-t21 c =
+    let s = entry (exclusions-made (c .before .before)) in
+    let n = table-few _ method (s .pre .0 method) in
+    omega (arith, s .pre .1)
 
 returns : tie.Need-returns
 returns c =
-    let s = c .before .before .before .before .before .before in
+    let g = c .before .before .before in
+    let s = entry (exclusions-made g) in
+    let few = table-few _ principal (s .pre .0 principal) in
     let w = c .before .listed .ensures in
+    let needed = g .before .leading-to .ensures in
     record {
-      few = table-few _ principal (s .pre .0 principal);
+      few = few;
       count = refl;
       permitted = refl;
-      excludes = λ p q lp lq. c .before .before .before .before .before .«excludes-of» .ensures p q lp;
-      needed = λ p q lp i. c .before .before .before .before .«needs-of» .ensures p lp .only q i .0;
-      needs = λ p q lp lq. let m = c .before .before .before .before .«needs-of» .ensures p lp in (λ i. m .only q i .1, λ e. m .all q lq e);
-      grants = λ p k lp. c .before .before .before .«grants-of» .ensures p k lp;
+      excludes = λ p q lp lq. exclusions-made g .excludes-of .ensures p q (omega arith);
+      needed = λ p q lp i. needed p lp .only q i .0;
+      needs = λ p q lp lq. (λ i. needed p lp .only q i .1, λ e. needed p lp .all q lq e);
+      grants = λ p k lp. g .grants-of .ensures p k lp;
       every = refl;
       wanted = w .0;
       bounded = w .1;
@@ -50,10 +68,10 @@ masks-of-spec =
     tie.close
     (tie.spec
     excludes-of-requires
-    needs-of-requires
+    leading-to-requires
     grants-of-requires
     mul-listed
     element-copy-out-listed
     listed-requires
-    element-copy-out-t16
+    element-copy-out-t21
     returns)
