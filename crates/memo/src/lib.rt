@@ -1,7 +1,7 @@
 // The memo of a record, and the steps of the two questions on it: what is evaluated and entered, member by member or all at once.
 
 ghost use mathlib.Core.Path.{_≡_};
-ghost use mathlib.Core.Bool.{true, not, cond};
+ghost use mathlib.Core.Bool.{true, not, cond, _&&_};
 ghost use Prim.Native.Nat.{ℕ, _≤_, _<_};
 ghost use Rattle.common.specs.Limits.{mostEdges, mostFormulas, mostPrincipals};
 ghost use Rattle.common.specs.Lists.{at, below};
@@ -119,7 +119,7 @@ fn index(x: u8) -> usize
 // Each principal in rising number has its formula evaluated, unless known.
 pub fn evaluated_all(rules: Record, memo: Memo, roles: u16, question: Question) -> Memo
     requires { ⌜ ((j : Kind) → tableLoads rules j ≡ true) ⌝ }
-    ensures { λ r. ⌜ r ≡ evaluatedAll (trueFor rules roles question) rules memo (below (rules .«principal_count»)) ⌝ }
+    ensures { λ r. ⌜ r ≡ evaluatedAll (trueFor rules roles (question .object) (question .requestor)) rules memo (below (rules .«principal_count»)) ⌝ }
 {
     let count = rules.principal_count;
     let object = question.object;
@@ -184,7 +184,7 @@ pub fn not_known_false<'a>(count: usize, formulas: &'a [u8; MOST_PRINCIPALS], me
 // The members of c in rising number are evaluated, unless known; the first that is not enabled ends it.
 pub fn weigh(rules: Record, memo: Memo, roles: u16, question: Question, c: u32) -> Tried
     requires { ⌜ ((j : Kind) → tableLoads rules j ≡ true) ⌝ }
-    ensures { λ r. ⌜ weighedOf r ≡ tried (trueFor rules roles question) rules memo (members rules c) ⌝ }
+    ensures { λ r. ⌜ weighedOf r ≡ tried (trueFor rules roles (question .object) (question .requestor)) rules memo (members rules c) ⌝ }
 {
     let count = rules.principal_count;
     let object = question.object;

@@ -20,7 +20,7 @@ element-write-noted-2 : tie.Need-element-write-noted-2
 element-write-noted-2 c = search needs
 
 returns-2 : tie.Need-returns-2
-returns-2 c = now-known _ _ _ (c .before .if1 .left) (c .«true-at-object» .ensures)
+returns-2 c = now-known _ _ _ (c .before .if1 .left) (c .true-at-object .ensures)
 
 pub evaluated-spec : {M : Type 1} → statement M
 evaluated-spec =

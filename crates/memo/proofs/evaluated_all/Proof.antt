@@ -1,61 +1,80 @@
 -- `evaluated_all` meets its contract.
-use Prim.Native.Nat.{_-_, _≤_}
+use Prim.Native.Nat.{ℕ, _-_, _≤_, _<_}
+use mathlib.Core.Path.{_≡_, _∙_, ap}
 use native.Mathlib.Omega.{arith}
-use Rattle.policy.specs.Table.{formula, principal}
+use borrow.Author.Needs.{needs}
+use Rattle.common.specs.Limits.{mostFormulas, mostPrincipals}
+use Rattle.common.specs.Lists.{below}
+use Rattle.policy.specs.Table.{edge, formula, principal}
 use Rattle.policy.specs.LoadableLaws.{table-few}
 use Rattle.justification.specs.NamedLaws.{principal-named}
-use mathlib.Core.Path.{_≡_, _∙_, ap}
-use Prim.Native.Nat.{ℕ}
-use Rattle.common.specs.Lists.{below}
-use Rattle.memo.specs.Walk.{evaluatedAll}
+use Rattle.memo.specs.Walk.{formulaOf, evaluatedAll}
 use Rattle.memo.specs.Evaluation.{trueFor}
 use Rattle.memo.proofs.Memos.{evaluated-none, evaluated-more}
-use borrow.Author.Needs.{needs}
 use Rattle.memo.proofs.evaluated_all.Statement.{statement}
 use Rattle.memo.proofs.evaluated_all.Tie as tie
 
 abbrev Inv-loop : tie.InvT-loop
-Inv-loop q rules count m₀ p₀ m p = (m ≡ evaluatedAll (trueAt q) rules m₀ (below p)) × (p ≤ count)
+Inv-loop roles rules count object requestor m₀ p₀ m p =
+    (m ≡ evaluatedAll (trueFor rules roles object requestor) rules m₀ (below p)) × (p ≤ count)
 
 abbrev μ-loop : tie.MeasureT-loop
-μ-loop q rules count m₀ p₀ m p = count - p
+μ-loop roles rules count object requestor m₀ p₀ m p = count - p
+
+-- inside the loop: the principal is one of the record's, and its formula has an index in the memo
+module _ (i : tie.In-loop Inv-loop μ-loop) where
+  few : i .before .loop .p < mostPrincipals
+  few = let n = table-few _ principal (i .before .before .pre principal) in omega (arith, i .loop-test .taken, n)
+
+  small : formulaOf (i .before .before .args .t1) (i .before .loop .p) < mostFormulas
+  small =
+      let f = principal-named (i .before .before .args .t1) (i .before .before .pre) (i .before .loop .p) (i .loop-test .taken) .0 in
+      let n = table-few _ formula (i .before .before .pre formula) in
+      omega (arith, f, n)
+
+-- the index of the formula, from where the columns were lent; the loop's test, from there
+abbrev lent : tie.After-evaluated-arg6 Inv-loop μ-loop → tie.After-index Inv-loop μ-loop
+lent c = c .before .before .before .before .before .before .before
+
+abbrev in-loop : tie.After-index Inv-loop μ-loop → tie.In-loop Inv-loop μ-loop
+in-loop c = c .before .before
 
 loop-holds : tie.Need-loop-holds Inv-loop μ-loop
 loop-holds c = (evaluated-none _ _ _, omega arith)
 
 element-copy-out-index : tie.Need-element-copy-out-index Inv-loop μ-loop
-element-copy-out-index c = let n = table-few _ principal (c .before .before .pre .0 principal) in omega arith
+element-copy-out-index c = few c
 
 index-requires : tie.Need-index-requires Inv-loop μ-loop
 index-requires c κs = search needs
 
 evaluated-requires : tie.Need-evaluated-requires Inv-loop μ-loop
 evaluated-requires c κs =
-    let l = c .before .before .before in
-    let f = principal-named (l .before .args .t1) (l .before .pre .0) (l .loop .p) (omega arith) .0 in
-    let n = table-few _ formula (l .before .pre .0 formula) in
-    (l .before .pre .1, omega (arith, c .index .ensures))
+    let x = lent c in
+    let i = in-loop x in
+    (table-few _ edge (i .before .before .pre edge), omega (arith, x .index .ensures, small i))
 
 add-p : tie.Need-add-p Inv-loop μ-loop
-add-p c =
-    let i = c .before .before .before in
-    let n = table-few _ principal (i .before .before .pre .0 principal) in
-    omega (arith, i .loop-test .taken, n)
+add-p c = omega (arith, few (in-loop (lent (c .before))))
 
 loop-less : tie.Need-loop-less Inv-loop μ-loop
-loop-less c = search needs
+loop-less c = omega (arith, in-loop (lent (c .before)) .loop-test .taken)
 
 loop-again : tie.Need-loop-again Inv-loop μ-loop
 loop-again c =
-    let l = c .before .before .before .before in
-    (evaluated-more _ (l .before .args .t1) (l .before .args .memo) (l .loop .p) (l .loop .inv .0) (c .before .index .ensures) (c .evaluated .ensures), omega arith)
+    let x = lent (c .before) in
+    let i = in-loop x in
+    let l = i .before in
+    (evaluated-more _ (l .before .args .t1) (l .before .args .memo) (l .loop .p) (l .loop .inv .0) (x .index .ensures) (c .evaluated .ensures),
+    omega (arith, i .loop-test .taken))
 
 returns : tie.Need-returns Inv-loop μ-loop
 returns c =
     let l = c .before in
     let s = l .before .args in
-    let e : l .loop .p ≡ s .t1 .«principal_count» = omega (arith, l .loop .inv .1) in
-    l .loop .inv .0 ∙ ap (λ (n : ℕ). evaluatedAll (trueAt (s .q)) (s .t1) (s .memo) (below n)) e
+    let e : l .loop .p ≡ s .t1 .«principal_count» = omega (arith, c .loop-test .left, l .loop .inv .1) in
+    l .loop .inv .0
+    ∙ ap (λ (n : ℕ). evaluatedAll (trueFor (s .t1) (s .roles) (s .question .object) (s .question .requestor)) (s .t1) (s .memo) (below n)) e
 
 pub evaluated-all-spec : {M : Type 1} → statement M
 evaluated-all-spec =

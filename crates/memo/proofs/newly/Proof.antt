@@ -15,17 +15,17 @@ abbrev μ-loop : tie.MeasureT-loop
 loop-holds : tie.Need-loop-holds Inv-loop μ-loop
 loop-holds c = (counted-none _ _, omega arith)
 
-element-copy-out-one-if : tie.Need-element-copy-out-one-if Inv-loop μ-loop
-element-copy-out-one-if c = search needs
+element-copy-out-counted : tie.Need-element-copy-out-counted Inv-loop μ-loop
+element-copy-out-counted c = search needs
 
-element-copy-out-one-if-2 : tie.Need-element-copy-out-one-if-2 Inv-loop μ-loop
-element-copy-out-one-if-2 c = search needs
+element-copy-out-counted-2 : tie.Need-element-copy-out-counted-2 Inv-loop μ-loop
+element-copy-out-counted-2 c = search needs
 
-one-if-requires : tie.Need-one-if-requires Inv-loop μ-loop
-one-if-requires c κs = search needs
+counted-requires : tie.Need-counted-requires Inv-loop μ-loop
+counted-requires c κs = search needs
 
 add-count : tie.Need-add-count Inv-loop μ-loop
-add-count c = omega (arith, c .before .before .before .before .loop .inv .0 .few, c .one-if .ensures .1)
+add-count c = omega (arith, c .before .before .before .before .loop .inv .0 .few, c .counted .ensures .1)
 
 add-f : tie.Need-add-f Inv-loop μ-loop
 add-f c = search needs
@@ -34,7 +34,7 @@ loop-less : tie.Need-loop-less Inv-loop μ-loop
 loop-less c = search needs
 
 loop-again : tie.Need-loop-again Inv-loop μ-loop
-loop-again c = (counted-more _ _ (c .before .before .before .before .loop .inv .0) (c .one-if .ensures .0) (c .one-if .ensures .1), omega arith)
+loop-again c = (counted-more _ _ (c .before .before .before .before .loop .inv .0) (c .counted .ensures .0) (c .counted .ensures .1), omega arith)
 
 returns : tie.Need-returns Inv-loop μ-loop
 returns c = counted-all _ _ (c .before .loop .inv .0) (omega arith)
@@ -46,9 +46,9 @@ newly-spec =
     Inv-loop
     μ-loop
     loop-holds
-    element-copy-out-one-if
-    element-copy-out-one-if-2
-    one-if-requires
+    element-copy-out-counted
+    element-copy-out-counted-2
+    counted-requires
     add-count
     add-f
     loop-less

@@ -1,54 +1,54 @@
 -- `valued` meets its contract.
-use Prim.Native.Nat.{_-_, _≤_}
-use native.Mathlib.Omega.{arith}
-use Rattle.policy.specs.Table.{formula, principal}
-use Rattle.policy.specs.LoadableLaws.{table-few}
-use Rattle.justification.specs.NamedLaws.{principal-named}
+use Prim.Native.Nat.{ℕ, _-_, _≤_}
 use mathlib.Core.Path.{ap}
-use Prim.Native.Nat.{ℕ}
-use Rattle.justification.specs.Parts.{Marks}
-use Rattle.memo.specs.Memo.{value}
-use Rattle.memo.specs.Walk.{formulaOf}
-use Rattle.justification.proofs.Marking.{marks-none, marks-more, marks-end}
+use native.Mathlib.Omega.{arith}
 use borrow.Author.Needs.{needs}
+use Rattle.common.specs.Lists.{at}
+use Rattle.justification.specs.Parts.{Marks}
+use Rattle.justification.proofs.Marking.{marks-none, marks-more, marks-end}
+use Rattle.memo.specs.Memo.{known, value}
 use Rattle.memo.proofs.valued.Statement.{statement}
 use Rattle.memo.proofs.valued.Tie as tie
 
 abbrev Inv-loop : tie.InvT-loop
-Inv-loop rules memo count s₀ p₀ s p = Marks p (λ k. value memo (formulaOf rules k)) s × (p ≤ count)
+Inv-loop count formulas memo s₀ p₀ s p = Marks p (λ k. value memo (at formulas k)) s × (p ≤ count)
 
 abbrev μ-loop : tie.MeasureT-loop
-μ-loop rules memo count s₀ p₀ s p = count - p
+μ-loop count formulas memo s₀ p₀ s p = count - p
 
 loop-holds : tie.Need-loop-holds Inv-loop μ-loop
 loop-holds c = (marks-none _, omega arith)
 
 element-copy-out-index : tie.Need-element-copy-out-index Inv-loop μ-loop
-element-copy-out-index c = let n = table-few _ principal (c .before .before .pre principal) in omega arith
+element-copy-out-index c = omega (arith, c .before .before .pre .0)
 
 index-requires : tie.Need-index-requires Inv-loop μ-loop
 index-requires c κs = search needs
 
+-- the loop's test, from the index of a formula; the formula has an index in the memo
+abbrev in-loop : tie.After-index Inv-loop μ-loop → tie.In-loop Inv-loop μ-loop
+in-loop c = c .before .before
+
 element-copy-out-marked : tie.Need-element-copy-out-marked Inv-loop μ-loop
 element-copy-out-marked c =
-    let l = c .before .before .before in
-    let f = principal-named (l .before .args .t1) (l .before .pre) (l .loop .p) (omega arith) .0 in
-    let n = table-few _ formula (l .before .pre formula) in
-    omega (arith, c .index .ensures)
+    let i = in-loop c in
+    omega (arith, c .index .ensures, i .before .before .pre .1 (i .before .loop .p) (i .loop-test .taken))
 
 marked-requires : tie.Need-marked-requires Inv-loop μ-loop
-marked-requires c κs = let n = table-few _ principal (c .before .before .before .before .before .pre principal) in omega arith
+marked-requires c κs = let i = in-loop (c .before) in omega (arith, i .before .before .pre .0, i .loop-test .taken)
 
 add-p : tie.Need-add-p Inv-loop μ-loop
-add-p c = search needs
+add-p c = let i = in-loop (c .before .before) in omega (arith, i .before .before .pre .0, i .loop-test .taken)
 
 loop-less : tie.Need-loop-less Inv-loop μ-loop
 loop-less c = search needs
 
 loop-again : tie.Need-loop-again Inv-loop μ-loop
 loop-again c =
-    let l = c .before .before .before .before .before in
-    (marks-more (l .loop .inv .0) _ (ap (λ (f : ℕ). value (l .before .args .t2) f) (c .before .before .index .ensures)) (c .marked .ensures), omega arith)
+    let x = c .before .before in
+    let i = in-loop x in
+    (marks-more (i .before .loop .inv .0) _ (ap (λ (f : ℕ). value (i .before .before .args .t3) f) (x .index .ensures)) (c .marked .ensures),
+    omega (arith, i .loop-test .taken))
 
 returns : tie.Need-returns Inv-loop μ-loop
 returns c = marks-end (omega arith) (c .before .loop .inv .0)
