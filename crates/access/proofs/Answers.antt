@@ -6,6 +6,7 @@ use mathlib.Core.Bool.{Bool, true, false, not}
 use mathlib.Core.Option.{Option, none, some}
 use native.Mathlib.Omega.{arith}
 use borrow.Author.Tests.{ne-eqb}
+use Rattle.common.specs.Limits.{mostFormulas}
 use Rattle.common.specs.Lists.{below}
 use Rattle.common.specs.BoolLaws.{same-test}
 use Rattle.common.specs.Refusals.{noSet}
@@ -16,10 +17,8 @@ use Rattle.policy.specs.declared.Memo.{Memo}
 use Rattle.policy.specs.Table.{Kind, formula, withEdges, withMemo}
 use Rattle.policy.specs.Loadable.{tableLoads}
 use Rattle.policy.specs.LoadableLaws.{table-few}
-use Rattle.formula.specs.declared.Setting.{Setting}
-use Rattle.formula.specs.Formula.{holds}
-use Rattle.formula.specs.Evaluation.{Sets}
-use Rattle.formula.specs.EvaluationLaws.{setting-holds}
+use Rattle.formula.specs.Formula.{holdsRole}
+use Rattle.formula.specs.EvaluationLaws.{true-at-holds}
 use Rattle.justification.specs.Justification.{members, candidates, least}
 use Rattle.justification.specs.declared.Question.{Question}
 use Rattle.justification.specs.Predicates.{questionRefusal}
@@ -38,12 +37,16 @@ use Rattle.memo.specs.StepLaws.{formulas-in-memo, least-ext, evaluated-ext, sea
 marks-member : {n s : ℕ} {t : ℕ → Bool} → Marks n t s → (p : ℕ) → p < n → member p s ≡ t p
 marks-member {n} {s} {t} h p l = same-test (member p s) (t p) (λ e. h .only p (member-in e) .1, λ e. in-member (h .all p l e))
 
--- evaluation in the setting is evaluation afresh
-pub truth-same : (r : Record) (q : Question) (x : Setting) → ((j : Kind) → tableLoads r j ≡ true) → Sets r (q .object) (q .requestor) x
-    → (p : ℕ) → p < r .«principal_count» → trueAt x (formulaOf r p) ≡ truthAt r q (formulaOf r p)
-truth-same r q x loads made p l =
-    setting-holds r (q .object) (q .requestor) x made (formulaOf r p) (x .object) (principal-named r loads p l .0) (table-few r formula (loads formula))
-    ∙ ap (λ (v : ℕ). holds r (formulaOf r p) v (q .object) (q .requestor)) (made .object)
+-- evaluation on the columns, for the roles that the requestor holds, is evaluation afresh
+pub truth-same : (r : Record) (q : Question) (roles : ℕ) → ((j : Kind) → tableLoads r j ≡ true)
+    → ((a : ℕ) → member a roles ≡ holdsRole r (q .requestor) a)
+    → (p : ℕ) → p < r .«principal_count» → trueFor r roles (q .object) (q .requestor) (formulaOf r p) ≡ truthAt r q (formulaOf r p)
+truth-same r q roles loads held p l =
+    true-at-holds r (formulaOf r p) (q .object) (q .requestor) roles held (principal-named r loads p l .0) (table-few r formula (loads formula))
+
+-- every principal's formula has an index in the memo
+pub formula-small : (r : Record) → ((j : Kind) → tableLoads r j ≡ true) → (p : ℕ) → p < r .«principal_count» → formulaOf r p < mostFormulas
+formula-small r loads p l = let (f, d) = principal-named r loads p l in let few = table-few r formula (loads formula) in omega arith
 
 module _ (r : Record) (q : Question) where
   pub eager-refused : {n : ℕ} → n ≡ questionRefusal r q → n ≢ 0 → refused n r ≡ eager r q
@@ -63,24 +66,28 @@ module _ (r : Record) (q : Question) where
   unfolding lazy
   lazy-is e = λ i. asked r (e i) (answered r (memoFor (r .memo) q) (walk (truthAt r q) r (memoFor (r .memo) q) (candidates r (q .method))))
 
-  module _ (loads : (j : Kind) → tableLoads r j ≡ true) (zero-number : 0 ≡ questionRefusal r q) (x : Setting) (made : Sets r (q .object) (q .requestor) x) {before : Memo} (first : before ≡ memoFor (r .memo) q) where
+  module _ (loads : (j : Kind) → tableLoads r j ≡ true) (zero-number : 0 ≡ questionRefusal r q) (roles : ℕ)
+      (held : (a : ℕ) → member a roles ≡ holdsRole r (q .requestor) a) {before : Memo} (first : before ≡ memoFor (r .memo) q) where
+    abbrev truth : ℕ → Bool
+    truth = trueFor r roles (q .object) (q .requestor)
+
     -- eager: all evaluated, then the least set of those with the value true
-    pub eager-answer : {after : Memo} {enabled : ℕ} {found : Option ℕ} → after ≡ evaluatedAll (trueAt x) r before (below (r .«principal_count»))
+    pub eager-answer : {after : Memo} {enabled : ℕ} {found : Option ℕ} → after ≡ evaluatedAll truth r before (below (r .«principal_count»))
         → Marks (r .«principal_count») (λ p. value after (formulaOf r p)) enabled → found ≡ least r (q .method) (λ p. member p enabled) → answered r before (outcome after found) ≡ eager r q
     unfolding eagerly
     eager-answer {after} {enabled} {found} e marks f =
         let same : after ≡ evaluatedAll (truthAt r q) r (memoFor (r .memo) q) (below (r .«principal_count»)) =
-        e ∙ evaluated-ext (trueAt x) (truthAt r q) r (truth-same r q x loads made) before ∙ ap (λ (k : Memo). evaluatedAll (truthAt r q) r k (below (r .«principal_count»))) first in
+        e ∙ evaluated-ext truth (truthAt r q) r (truth-same r q roles loads held) before ∙ ap (λ (k : Memo). evaluatedAll (truthAt r q) r k (below (r .«principal_count»))) first in
         let chosen : found ≡ least r (q .method) (λ p. value after (formulaOf r p)) = f ∙ least-ext r (q .method) (λ p. member p enabled) (λ p. value after (formulaOf r p)) (marks-member marks) in
         (λ i. answered r (first i) (outcome after (chosen i)))
         ∙ ap (λ (k : Memo). answered r (memoFor (r .memo) q) (eagerly r (q .method) k)) same
         ∙ eager-is zero-number
 
     -- lazy: the outcome of at most P + 1 searches
-    pub lazy-answer : MemoLengths before → answered r before (searching (r .«principal_count» + 1) (trueAt x) r (q .method) before) ≡ lazy r q
+    pub lazy-answer : MemoLengths before → answered r before (searching (r .«principal_count» + 1) truth r (q .method) before) ≡ lazy r q
     lazy-answer lengths =
         ap (answered r before)
-        (searching-ext (trueAt x) (truthAt r q) r (truth-same r q x loads made) (r .«principal_count» + 1) (q .method) before
+        (searching-ext truth (truthAt r q) r (truth-same r q roles loads held) (r .«principal_count» + 1) (q .method) before
         ∙ sym (walk-searches (truthAt r q) r (q .method) before (formulas-in-memo r loads) lengths))
         ∙ ap (λ (k : Memo). answered r k (walk (truthAt r q) r k (candidates r (q .method)))) first
         ∙ lazy-is zero-number

@@ -1,22 +1,21 @@
 -- `ask_eager_given` meets its contract.
-use mathlib.Core.Path.{_≡_, sym, _∙_, ap}
 use Prim.Native.Nat.{ℕ}
+use mathlib.Core.Path.{_≡_, sym, _∙_, ap}
 use mathlib.Core.Bool.{true}
 use native.Mathlib.Omega.{arith}
+use borrow.Author.Needs.{needs}
 use Rattle.common.specs.Sets.{member}
-use Rattle.policy.specs.Table.{Kind, user, edge}
+use Rattle.policy.specs.Table.{Kind, user, principal}
 use Rattle.policy.specs.Loadable.{tableLoads}
 use Rattle.policy.specs.LoadableLaws.{table-few, loadable-table}
 use Rattle.search.specs.declared.Found.{Found}
 use Rattle.justification.specs.Justification.{least}
 use Rattle.justification.specs.Predicates.{questionRefusal}
 use Rattle.justification.specs.Masked.{found}
-use Rattle.memo.specs.Walk.{outcome}
 use Rattle.justification.proofs.Asking.{Asked, asked}
-use Rattle.access.specs.Access.{answered}
-use Rattle.access.specs.Access.{eager}
-use Rattle.access.proofs.Answers.{eager-refused, eager-answer}
-use borrow.Author.Needs.{needs}
+use Rattle.memo.specs.Walk.{outcome}
+use Rattle.access.specs.Access.{answered, eager}
+use Rattle.access.proofs.Answers.{formula-small, eager-refused, eager-answer}
 use Rattle.access.proofs.ask_eager_given.Statement.{statement}
 use Rattle.access.proofs.ask_eager_given.Tie as tie
 
@@ -35,31 +34,41 @@ memo-for-requires c κs = search needs
 -- past the test of the number: the question may be put
 module _ (h : tie.After-memo-for) where
   abbrev start : tie.Start
-  start = h .before .before .before
+  start = h .before .before .before .before
 
-  no-refusal : 0 ≡ questionRefusal (start .args .rules) (start .args .question)
-  no-refusal = sym (h .before .if1 .left) ∙ h .before .before .question-refusal .ensures
+  no-refusal : 0 ≡ questionRefusal (start .args .t1) (start .args .question)
+  no-refusal = sym (h .before .before .if1 .left) ∙ h .before .before .before .question-refusal .ensures
 
-  may : Asked (start .args .rules) (start .args .question)
+  may : Asked (start .args .t1) (start .args .question)
   may = asked _ _ (sym no-refusal)
 
-  tables : (j : Kind) → tableLoads (start .args .rules) j ≡ true
+  tables : (j : Kind) → tableLoads (start .args .t1) j ≡ true
   tables = loadable-table _ (may .loads)
 
-setting-of-requires : tie.Need-setting-of-requires
-setting-of-requires c κs = table-few _ user (tables c user)
+-- the memo made, from where the roles were found
+abbrev memo-made : tie.After-roles-of → tie.After-memo-for
+memo-made c = c .before .before .before .before
+
+roles-of-requires : tie.Need-roles-of-requires
+roles-of-requires c κs = table-few _ user (tables (c .before .before .before) user)
 
 evaluated-all-requires : tie.Need-evaluated-all-requires
-evaluated-all-requires c κs = (tables (c .before), let n = table-few _ edge (tables (c .before) edge) in omega (arith, c .setting-of .ensures .count, n))
+evaluated-all-requires c κs = tables (memo-made c)
+
+-- the roles found, from where the enabled principals are known
+abbrev roles-found : tie.After-valued → tie.After-roles-of
+roles-found c = c .before .before .before .before
 
 valued-requires : tie.Need-valued-requires
-valued-requires c κs = tables (c .before .before)
+valued-requires c κs =
+    let h = memo-made (c .before .before .before) in
+    (table-few _ principal (tables h principal), λ p l. formula-small _ (tables h) p l)
 
 index-requires : tie.Need-index-requires
 index-requires c κs = search needs
 
 least-requires : tie.Need-least-requires
-least-requires c κs = let h = c .before .before .before .before in (tables h, omega (arith, c .index .ensures, may h .method))
+least-requires c κs = let h = memo-made (roles-found (c .before)) in (tables h, omega (arith, c .index .ensures, may h .method))
 
 enum-known-set : tie.Need-enum-known-set
 enum-known-set c = search needs
@@ -74,31 +83,38 @@ denied-requires : tie.Need-denied-requires
 denied-requires c κs = search needs
 
 -- what the least set of those with the value true comes to
-whole : (l : tie.After-least) → let e = l .before .before .before in
-    let h = e .before .before in
-    answered (start h .args .rules) (h .memo-for .result) (outcome (e .evaluated-all .result) (found (l .least .result))) ≡ eager (start h .args .rules) (start h .args .question)
-whole l =
-    let v = l .before .before in
-    let e = v .before in
-    let q = e .before in
-    let h = q .before in
-    eager-answer (start h .args .rules) (start h .args .question) (tables h) (no-refusal h) (q .setting-of .result) (q .setting-of .ensures) (h .memo-for .ensures .0)
-    (e .evaluated-all .ensures) (v .valued .ensures)
-    (l .least .ensures ∙ ap (λ (k : ℕ). least (start h .args .rules) k (λ p. member p (v .valued .result))) (l .before .index .ensures))
+module _ (l : tie.After-least) where
+  abbrev marked : tie.After-valued
+  marked = l .before .before
+
+  abbrev evaluated : tie.After-evaluated-all
+  evaluated = marked .before .before .before
+
+  abbrev made : tie.After-memo-for
+  made = memo-made (roles-found marked)
+
+  whole : answered (start made .args .t1) (made .memo-for .result) (outcome (evaluated .evaluated-all .result) (found (l .least .result)))
+      ≡ eager (start made .args .t1) (start made .args .question)
+  whole =
+      let o = roles-found marked in
+      let r = start made .args .t1 in
+      eager-answer r (start made .args .question) (tables made) (no-refusal made) (o .roles-of .result) (o .roles-of .ensures)
+      (made .memo-for .ensures .0) (evaluated .evaluated-all .ensures) (marked .valued .ensures)
+      (l .least .ensures ∙ ap (λ (k : ℕ). least r k (λ p. member p (marked .valued .result))) (l .before .index .ensures))
+
+  -- the same with what the search found, case by case
+  case : {x : Found} → l .least .result ≡ x
+      → answered (start made .args .t1) (made .memo-for .result) (outcome (evaluated .evaluated-all .result) (found x))
+      ≡ eager (start made .args .t1) (start made .args .question)
+  case e =
+      ap (λ (x : Found). answered (start made .args .t1) (made .memo-for .result) (outcome (evaluated .evaluated-all .result) (found x))) (sym e)
+      ∙ whole
 
 returns-2 : tie.Need-returns-2
-returns-2 c =
-    let l = c .before .before .before .before in
-    let e = l .before .before .before in
-    let h = e .before .before in
-    c .granted .ensures ∙ ap (λ (x : Found). answered (start h .args .rules) (h .memo-for .result) (outcome (e .evaluated-all .result) (found x))) (sym (c .before .before .set .given .1)) ∙ whole l
+returns-2 c = c .granted .ensures ∙ case (c .before .before .before .before) (c .before .before .set .given .1)
 
 returns-3 : tie.Need-returns-3
-returns-3 c =
-    let l = c .before .before .before in
-    let e = l .before .before .before in
-    let h = e .before .before in
-    c .denied .ensures ∙ ap (λ (x : Found). answered (start h .args .rules) (h .memo-for .result) (outcome (e .evaluated-all .result) (found x))) (sym (c .before .enum-told .given .1)) ∙ whole l
+returns-3 c = c .denied .ensures ∙ case (c .before .before .before) (c .before .enum-told .given .1)
 
 pub ask-eager-given-spec : {M : Type 1} → statement M
 ask-eager-given-spec =
@@ -108,7 +124,7 @@ ask-eager-given-spec =
     refused-requires
     returns
     memo-for-requires
-    setting-of-requires
+    roles-of-requires
     evaluated-all-requires
     valued-requires
     index-requires

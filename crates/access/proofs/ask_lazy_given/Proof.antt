@@ -1,30 +1,31 @@
--- `ask_lazy_given` meets its contract.
-use Prim.Native.Nat.{_-_, _+_, _≤_}
-use Prim.Native.Nat.{ℕ}
-use mathlib.Core.Bool.{true}
+-- `ask_lazy_given` meets its contract: the searches, round by round, are the walk over all candidates.
+use Prim.Native.Nat.{ℕ, _-_, _+_, _≤_}
+use mathlib.Core.Path.{_≡_, sym, _∙_, ap}
+use mathlib.Core.Bool.{Bool, true}
+use native.Mathlib.Omega.{arith}
+use borrow.Author.Needs.{needs}
 use Rattle.common.specs.Sets.{member}
-use Rattle.policy.specs.Table.{Kind, user, edge}
+use Rattle.policy.specs.Table.{Kind, user, principal}
 use Rattle.policy.specs.Loadable.{tableLoads}
 use Rattle.policy.specs.LoadableLaws.{table-few, loadable-table}
 use Rattle.justification.specs.Justification.{least}
 use Rattle.justification.specs.Predicates.{questionRefusal}
 use Rattle.justification.specs.Masked.{found}
-use Rattle.memo.specs.Walk.{searching}
 use Rattle.justification.proofs.Asking.{Asked, asked}
-use Rattle.access.specs.Access.{answered, lazy}
-use mathlib.Core.Path.{_≡_, sym, _∙_, ap}
-use native.Mathlib.Omega.{arith}
+use Rattle.memo.specs.Walk.{searching}
 use Rattle.memo.specs.Evaluation.{trueFor}
-use Rattle.access.proofs.Answers.{Round, round-first, round-denied, round-granted, round-ended, round-last, lazy-refused, lazy-answer}
-use borrow.Author.Needs.{needs}
+use Rattle.access.specs.Access.{answered, lazy}
+use Rattle.access.proofs.Answers.{Round, round-first, round-denied, round-granted, round-ended, round-last}
+use Rattle.access.proofs.Answers.{formula-small, lazy-refused, lazy-answer}
 use Rattle.access.proofs.ask_lazy_given.Statement.{statement}
 use Rattle.access.proofs.ask_lazy_given.Tie as tie
 
 abbrev Inv-loop : tie.InvT-loop
-Inv-loop rules loads question number before q masks count memo₀ rounds₀ memo rounds = Round (trueAt q) rules (question .method) before rounds memo × (rounds ≤ count + 1)
+Inv-loop loads question rules number before s roles method masks count memo₀ rounds₀ memo rounds =
+    Round (trueFor rules roles (question .object) (question .requestor)) rules (question .method) before rounds memo × (rounds ≤ count + 1)
 
 abbrev μ-loop : tie.MeasureT-loop
-μ-loop rules loads question number before q masks count memo₀ rounds₀ memo rounds = count + 1 - rounds
+μ-loop loads question rules number before s roles method masks count memo₀ rounds₀ memo rounds = count + 1 - rounds
 
 question-refusal-requires : tie.Need-question-refusal-requires Inv-loop μ-loop
 question-refusal-requires c κs = c .pre
@@ -41,59 +42,75 @@ memo-for-requires c κs = search needs
 -- past the test of the number: the question may be put
 module _ (h : tie.After-memo-for Inv-loop μ-loop) where
   abbrev start : tie.Start Inv-loop μ-loop
-  start = h .before .before .before
+  start = h .before .before .before .before
 
-  no-refusal : 0 ≡ questionRefusal (start .args .rules) (start .args .question)
-  no-refusal = sym (h .before .if1 .left) ∙ h .before .before .question-refusal .ensures
+  no-refusal : 0 ≡ questionRefusal (start .args .t1) (start .args .question)
+  no-refusal = sym (h .before .before .if1 .left) ∙ h .before .before .before .question-refusal .ensures
 
-  may : Asked (start .args .rules) (start .args .question)
+  may : Asked (start .args .t1) (start .args .question)
   may = asked _ _ (sym no-refusal)
 
-  tables : (j : Kind) → tableLoads (start .args .rules) j ≡ true
+  tables : (j : Kind) → tableLoads (start .args .t1) j ≡ true
   tables = loadable-table _ (may .loads)
 
-setting-of-requires : tie.Need-setting-of-requires Inv-loop μ-loop
-setting-of-requires c κs = table-few _ user (tables c user)
+-- the memo made, from where the roles were found
+abbrev memo-made : tie.After-roles-of Inv-loop μ-loop → tie.After-memo-for Inv-loop μ-loop
+memo-made c = c .before .before .before .before
+
+roles-of-requires : tie.Need-roles-of-requires Inv-loop μ-loop
+roles-of-requires c κs = table-few _ user (tables (c .before .before .before) user)
 
 index-requires : tie.Need-index-requires Inv-loop μ-loop
 index-requires c κs = search needs
 
 masks-of-requires : tie.Need-masks-of-requires Inv-loop μ-loop
-masks-of-requires c κs = let h = c .before .before in (tables h, omega (arith, c .index .ensures, may h .method))
+masks-of-requires c κs = let h = memo-made (c .before) in (tables h, omega (arith, c .index .ensures, may h .method))
 
 loop-holds : tie.Need-loop-holds Inv-loop μ-loop
 loop-holds c = (round-first _ _ _ _, omega arith)
 
 -- at the loop: what the searches come to is the answer
 module _ (a : tie.At-loop Inv-loop μ-loop) where
-  abbrev set-up : tie.After-setting-of Inv-loop μ-loop
-  set-up = a .before .before .before
+  abbrev roles-found : tie.After-roles-of Inv-loop μ-loop
+  roles-found = a .before .before .before
 
-  abbrev asked-of : tie.After-memo-for Inv-loop μ-loop
-  asked-of = a .before .before .before .before
+  abbrev made : tie.After-memo-for Inv-loop μ-loop
+  made = memo-made roles-found
 
-  whole : answered (start asked-of .args .rules) (asked-of .memo-for .result)
-      (searching (start asked-of .args .rules .«principal_count» + 1) (trueAt (set-up .setting-of .result)) (start asked-of .args .rules) (start asked-of .args .question .method) (asked-of .memo-for .result))
-      ≡ lazy (start asked-of .args .rules) (start asked-of .args .question)
+  abbrev entry : tie.Start Inv-loop μ-loop
+  entry = start made
+
+  abbrev truth : ℕ → Bool
+  truth = trueFor (entry .args .t1) (roles-found .roles-of .result) (entry .args .question .object) (entry .args .question .requestor)
+
+  whole : answered (entry .args .t1) (made .memo-for .result)
+      (searching (entry .args .t1 .«principal_count» + 1) truth (entry .args .t1) (entry .args .question .method) (made .memo-for .result))
+      ≡ lazy (entry .args .t1) (entry .args .question)
   whole =
-      lazy-answer (start asked-of .args .rules) (start asked-of .args .question) (tables asked-of) (no-refusal asked-of)
-      (set-up .setting-of .result) (set-up .setting-of .ensures) (asked-of .memo-for .ensures .0) (asked-of .memo-for .ensures .1)
+      lazy-answer (entry .args .t1) (entry .args .question) (tables made) (no-refusal made) (roles-found .roles-of .result) (roles-found .roles-of .ensures)
+      (made .memo-for .ensures .0) (made .memo-for .ensures .1)
 
 -- in a round: the least candidate among those not known false
 module _ (l : tie.After-least-among Inv-loop μ-loop) where
-  abbrev at-loop : tie.At-loop Inv-loop μ-loop
-  at-loop = l .before .before .before
+  abbrev in-loop : tie.In-loop Inv-loop μ-loop
+  in-loop = l .before .before .before .before
 
-  next-is : found (l .least-among .result) ≡ least (start (asked-of at-loop) .args .rules) (start (asked-of at-loop) .args .question .method) (λ p. member p (l .before .not-known-false .result))
+  abbrev at-loop : tie.At-loop Inv-loop μ-loop
+  at-loop = in-loop .before
+
+  next-is : found (l .least-among .result)
+      ≡ least (entry at-loop .args .t1) (entry at-loop .args .question .method) (λ p. member p (l .before .not-known-false .result))
   next-is =
-      l .least-among .ensures (start (asked-of at-loop) .args .rules) (at-loop .before .before .index .result) 0 (at-loop .before .masks-of .ensures)
-      ∙ ap (λ (k : ℕ). least (start (asked-of at-loop) .args .rules) k (λ p. member p (l .before .not-known-false .result))) (at-loop .before .before .index .ensures)
+      l .least-among .ensures (entry at-loop .args .t1) (at-loop .before .before .index .result) 0 (at-loop .before .masks-of .ensures)
+      ∙ ap (λ (k : ℕ). least (entry at-loop .args .t1) k (λ p. member p (l .before .not-known-false .result))) (at-loop .before .before .index .ensures)
 
 not-known-false-requires : tie.Need-not-known-false-requires Inv-loop μ-loop
-not-known-false-requires c κs = tables (c .before .before .before .before .before)
+not-known-false-requires c κs =
+    let h = made (c .before .before .before) in
+    (table-few _ principal (tables h principal), λ p l. formula-small _ (tables h) p l)
 
 least-among-requires : tie.Need-least-among-requires Inv-loop μ-loop
-least-among-requires c κs = let k = c .before .before .before .masks-of .ensures in omega (arith, k .few, k .count)
+least-among-requires c κs = let k = c .before .before .before .before .before .masks-of .ensures in omega (arith, k .few, k .count)
 
 enum-told : tie.Need-enum-told Inv-loop μ-loop
 enum-told c = search needs
@@ -106,17 +123,16 @@ returns-2 c =
     let l = c .before .before .before in
     let a = at-loop l in
     c .denied .ensures
-    ∙ ap (answered _ _) (round-denied _ _ _ _ (l .before .before .loop-test .taken) (a .loop .inv .0) (l .before .not-known-false .ensures) (next-is l) (ap found (c .before .enum-told .given .1)))
+    ∙ ap (answered _ _)
+    (round-denied _ _ _ _ (in-loop l .loop-test .taken) (a .loop .inv .0) (l .before .not-known-false .ensures) (next-is l)
+    (ap found (c .before .enum-told .given .1)))
     ∙ whole a
 
-enum-known-next : tie.Need-enum-known-next Inv-loop μ-loop
-enum-known-next c = search needs
+enum-known-c : tie.Need-enum-known-c Inv-loop μ-loop
+enum-known-c c = search needs
 
 weigh-requires : tie.Need-weigh-requires Inv-loop μ-loop
-weigh-requires c κs =
-    let h = asked-of (at-loop (c .before .before .before)) in
-    let n = table-few _ edge (tables h edge) in
-    (tables h, omega (arith, set-up (at-loop (c .before .before .before)) .setting-of .ensures .count, n))
+weigh-requires c κs = tables (made (at-loop (c .before .before .before)))
 
 granted-requires : tie.Need-granted-requires Inv-loop μ-loop
 granted-requires c κs = search needs
@@ -127,22 +143,30 @@ returns-3 c =
     let l = w .before .before .before .before in
     let a = at-loop l in
     c .granted .ensures
-    ∙ ap (answered _ _) (round-granted _ _ _ _ (l .before .before .loop-test .taken) (a .loop .inv .0) (l .before .not-known-false .ensures) (next-is l) (ap found (w .before .before .next .given .1)) (w .weigh .result) (w .weigh .ensures) (c .before .if2 .taken))
+    ∙ ap (answered _ _)
+    (round-granted _ _ _ _ (in-loop l .loop-test .taken) (a .loop .inv .0) (l .before .not-known-false .ensures) (next-is l)
+    (ap found (w .before .before .c .given .1)) (w .weigh .result) (w .weigh .ensures) (c .before .if2 .taken))
     ∙ whole a
 
 add-rounds : tie.Need-add-rounds Inv-loop μ-loop
-add-rounds c = search needs
+add-rounds c =
+    let l = c .before .before .before .before .before .before in
+    let few = table-few _ principal (tables (made (at-loop l)) principal) in
+    omega (arith, in-loop l .loop-test .taken, few)
 
 loop-less : tie.Need-loop-less Inv-loop μ-loop
-loop-less c = search needs
+loop-less c =
+    let l = c .before .before .before .before .before .before in
+    omega (arith, in-loop l .loop-test .taken)
 
 loop-again : tie.Need-loop-again Inv-loop μ-loop
 loop-again c =
     let w = c .before .before in
     let l = w .before .before .before .before in
     let a = at-loop l in
-    let i = l .before .before in
-    (round-ended _ _ _ _ (i .loop-test .taken) (a .loop .inv .0) (l .before .not-known-false .ensures) (next-is l) (ap found (w .before .before .next .given .1)) (w .weigh .result) (w .weigh .ensures) (c .before .if2 .left), omega (arith, i .loop-test .taken))
+    (round-ended _ _ _ _ (in-loop l .loop-test .taken) (a .loop .inv .0) (l .before .not-known-false .ensures) (next-is l)
+    (ap found (w .before .before .c .given .1)) (w .weigh .result) (w .weigh .ensures) (c .before .if2 .left),
+    omega (arith, in-loop l .loop-test .taken))
 
 denied-requires-2 : tie.Need-denied-requires-2 Inv-loop μ-loop
 denied-requires-2 c κs = search needs
@@ -162,7 +186,7 @@ ask-lazy-given-spec =
     refused-requires
     returns
     memo-for-requires
-    setting-of-requires
+    roles-of-requires
     index-requires
     masks-of-requires
     loop-holds
@@ -171,7 +195,7 @@ ask-lazy-given-spec =
     enum-told
     denied-requires
     returns-2
-    enum-known-next
+    enum-known-c
     weigh-requires
     granted-requires
     returns-3
