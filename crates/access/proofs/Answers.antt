@@ -30,7 +30,8 @@ use Rattle.memo.specs.WalkLaws.{MemoLengths, walk-searches}
 use Rattle.memo.specs.declared.Tried.{Tried}
 use Rattle.memo.specs.Memo.{memoFor, newly}
 use Rattle.access.specs.Access.{truthAt, answered, refused, asked, eager, lazy}
-use Rattle.memo.specs.Evaluation.{trueFor, weighedOf}
+use Rattle.formula.specs.Evaluation.{trueAtObject}
+use Rattle.memo.specs.Walk.{weighedOf}
 use Rattle.memo.specs.StepLaws.{formulas-in-memo, least-ext, evaluated-ext, searching-ext}
 
 -- a set of marked principals, as a test
@@ -40,7 +41,7 @@ marks-member {n} {s} {t} h p l = same-test (member p s) (t p) (λ e. h .only p (
 -- evaluation on the columns, for the roles that the requestor holds, is evaluation afresh
 pub truth-same : (r : Record) (q : Question) (roles : ℕ) → ((j : Kind) → tableLoads r j ≡ true)
     → ((a : ℕ) → member a roles ≡ holdsRole r (q .requestor) a)
-    → (p : ℕ) → p < r .«principal_count» → trueFor r roles (q .object) (q .requestor) (formulaOf r p) ≡ truthAt r q (formulaOf r p)
+    → (p : ℕ) → p < r .«principal_count» → trueAtObject r roles (q .object) (q .requestor) (formulaOf r p) ≡ truthAt r q (formulaOf r p)
 truth-same r q roles loads held p l =
     true-at-holds r (formulaOf r p) (q .object) (q .requestor) roles held (principal-named r loads p l .0) (table-few r formula (loads formula))
 
@@ -69,7 +70,7 @@ module _ (r : Record) (q : Question) where
   module _ (loads : (j : Kind) → tableLoads r j ≡ true) (zero-number : 0 ≡ questionRefusal r q) (roles : ℕ)
       (held : (a : ℕ) → member a roles ≡ holdsRole r (q .requestor) a) {before : Memo} (first : before ≡ memoFor (r .memo) q) where
     abbrev truth : ℕ → Bool
-    truth = trueFor r roles (q .object) (q .requestor)
+    truth = trueAtObject r roles (q .object) (q .requestor)
 
     -- eager: all evaluated, then the least set of those with the value true
     pub eager-answer : {after : Memo} {enabled : ℕ} {found : Option ℕ} → after ≡ evaluatedAll truth r before (below (r .«principal_count»))

@@ -25,7 +25,7 @@ turned (suc n) labels from to a p v =
     ∙ sym (any-more (λ e. eqb (at e 0) a && (eqb (at e 2) v && p (at e 1))) n (λ i. at labels i ∷ at from i ∷ at to i ∷ []))
 
 -- r is the answer, of the asked vertices, for formula f
-module _ (fs : Formulas) (c : Context) (f : ℕ) {asked r : List Bool} where
+module _ (fs : Formulas) (c : Context) (f : ℕ) (asked : List Bool) {r : List Bool} where
   -- a formula at or above n is true nowhere; one below n is what its parts make it
   pub none-below : (n : ℕ) → n ≤ f → ((v : ℕ) → isIn r v ≡ false) → Among asked (trueBelow fs c n f) r
   none-below n l h = record { members = λ v. h v ∙ sym (ap (λ (b : Bool). isIn asked v && b) (below-out fs c n f v l) ∙ and-false (isIn asked v)) }
@@ -55,9 +55,9 @@ module _ (fs : Formulas) (c : Context) (f : ℕ) {asked r : List Bool} where
   unfolding meaning
   negated op ea et er =
       by-op 4 op (
-        record {
-          members = λ v. er .members v ∙ rw (et .members v, and-not) (λ j. isIn asked v && not (trueBelow fs c f (ea j) v));
-        }
+      record {
+        members = λ v. er .members v ∙ rw (et .members v, and-not) (λ j. isIn asked v && not (trueBelow fs c f (ea j) v));
+      }
       )
     where
       and-not : (a b : Bool) → (a && not (a && b)) ≡ (a && not b)
@@ -69,12 +69,12 @@ module _ (fs : Formulas) (c : Context) (f : ℕ) {asked r : List Bool} where
   unfolding meaning
   both op ea eb et er =
       by-op 5 op (
-        record {
-          members =
-              λ v.
-              er .members v
-              ∙ rw (et .members v, and-assoc) (λ j. isIn asked v && (trueBelow fs c f (ea j) v && trueBelow fs c f (eb j) v));
-        }
+      record {
+        members =
+            λ v.
+            er .members v
+            ∙ rw (et .members v, and-assoc) (λ j. isIn asked v && (trueBelow fs c f (ea j) v && trueBelow fs c f (eb j) v));
+      }
       )
 
   pub either : {a b : ℕ} {t u : List Bool} → at (fs .ops) f ≡ 6 → a ≡ at (fs .lefts) f → b ≡ at (fs .rights) f
@@ -83,12 +83,12 @@ module _ (fs : Formulas) (c : Context) (f : ℕ) {asked r : List Bool} where
   unfolding meaning
   either op ea eb et eu er =
       by-op 6 op (
-        record {
-          members =
-              λ v.
-              er v
-              ∙ rw (et .members v, eu .members v, ← and-or-distrib-left) (λ j. isIn asked v && (trueBelow fs c f (ea j) v || trueBelow fs c f (eb j) v));
-        }
+      record {
+        members =
+            λ v.
+            er v
+            ∙ rw (et .members v, eu .members v, ← and-or-distrib-left) (λ j. isIn asked v && (trueBelow fs c f (ea j) v || trueBelow fs c f (eb j) v));
+      }
       )
 
   -- an edge scan from the edges' starts to their ends, and from their ends to their starts
@@ -103,12 +103,12 @@ module _ (fs : Formulas) (c : Context) (f : ℕ) {asked r : List Bool} where
   unfolding meaning
   backward n labels from to e op h =
       by-op 8 op (
-        record {
-          members =
-              λ v.
-              h .members v
-              ∙ rw turned (λ j. isIn asked v && leads (e j) 2 1 (at (fs .lefts) f) (trueBelow fs c f (at (fs .rights) f)) v);
-        }
+      record {
+        members =
+            λ v.
+            h .members v
+            ∙ rw turned (λ j. isIn asked v && leads (e j) 2 1 (at (fs .lefts) f) (trueBelow fs c f (at (fs .rights) f)) v);
+      }
       )
 
   -- no op has a number above 8
@@ -143,17 +143,17 @@ scanned es a b Q {asked} {reached} {found} e reaches finds h = record { members 
     go v false x = refl
     go v true x = same-test (leads es 1 2 a (isIn found) v) (leads es 1 2 a (Q b) v) (
       (λ t.
-      let (e, (i, p)) = some-edge _ es t in
-      let (l, q) = and-cases (eqb (at e 0) a) _ p in
-      let (m, q) = and-cases (eqb (at e 1) v) _ q in
-      let q = and-cases (leads es 2 1 a (isIn asked) (at e 2)) (Q b (at e 2)) (sym (is-found (at e 2)) ∙ q) .1 in
-      edge-some _ es e i (and-both (eqb (at e 0) a) _ l (and-both (eqb (at e 1) v) (Q b (at e 2)) m q))),
+          let (e, (i, p)) = some-edge _ es t in
+          let (l, q) = and-cases (eqb (at e 0) a) _ p in
+          let (m, q) = and-cases (eqb (at e 1) v) _ q in
+          let q = and-cases (leads es 2 1 a (isIn asked) (at e 2)) (Q b (at e 2)) (sym (is-found (at e 2)) ∙ q) .1 in
+          edge-some _ es e i (and-both (eqb (at e 0) a) _ l (and-both (eqb (at e 1) v) (Q b (at e 2)) m q))),
       (λ t.
-      let (e, (i, p)) = some-edge _ es t in
-      let (l, q) = and-cases (eqb (at e 0) a) _ p in
-      let (m, q) = and-cases (eqb (at e 1) v) _ q in
-      let ends = and-both (eqb (at e 2) (at e 2)) (isIn asked (at e 1)) (eq-eqb (at e 2) (at e 2) refl) (ap (isIn asked) (eqb-true (at e 1) v m) ∙ x) in
-      let reached = edge-some (λ d. eqb (at d 0) a && (eqb (at d 2) (at e 2) && isIn asked (at d 1))) es e i (and-both (eqb (at e 0) a) _ l ends) in
-      let q = is-found (at e 2) ∙ and-both (leads es 2 1 a (isIn asked) (at e 2)) (Q b (at e 2)) reached q in
-      edge-some _ es e i (and-both (eqb (at e 0) a) _ l (and-both (eqb (at e 1) v) (isIn found (at e 2)) m q))),
+          let (e, (i, p)) = some-edge _ es t in
+          let (l, q) = and-cases (eqb (at e 0) a) _ p in
+          let (m, q) = and-cases (eqb (at e 1) v) _ q in
+          let ends = and-both (eqb (at e 2) (at e 2)) (isIn asked (at e 1)) (eq-eqb (at e 2) (at e 2) refl) (ap (isIn asked) (eqb-true (at e 1) v m) ∙ x) in
+          let reached = edge-some (λ d. eqb (at d 0) a && (eqb (at d 2) (at e 2) && isIn asked (at d 1))) es e i (and-both (eqb (at e 0) a) _ l ends) in
+          let q = is-found (at e 2) ∙ and-both (leads es 2 1 a (isIn asked) (at e 2)) (Q b (at e 2)) reached q in
+          edge-some _ es e i (and-both (eqb (at e 0) a) _ l (and-both (eqb (at e 1) v) (isIn found (at e 2)) m q))),
     )

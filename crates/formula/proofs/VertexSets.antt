@@ -16,7 +16,7 @@ use Rattle.common.specs.Lists.{at, any}
 use Rattle.common.specs.ListLaws.{any-more}
 use Rattle.common.specs.BoolLaws.{and-true, and-false}
 use Rattle.formula.specs.Formula.{leads}
-use Rattle.formula.specs.Evaluation.{isIn, edgesIn}
+use Rattle.formula.specs.Evaluation.{isIn, Among, edgesIn}
 
 -- ---- tables
 pub all-false : (n v : ℕ) → isIn (replicate n false) v ≡ false
@@ -69,6 +69,10 @@ everywhere q r e inside outside v = go (decLt v 256)
     go (yes l) = inside v l
     go (no n) = let h : 256 ≤ v = omega arith in beyond r 256 v e h ∙ sym (outside v h)
 
+-- at an asked vertex
+pub at-asked : {asked r : List Bool} {p : ℕ → Bool} {v w : ℕ} → Among asked p r → v ≡ w → isIn asked v ≡ true → isIn r v ≡ p w
+at-asked {p = p} {v} h e t = h .members v ∙ (λ j. t j && p (e j))
+
 -- ---- passes over the edges
 module _ (labels starts ends : List ℕ) (label : ℕ) (asked : List Bool) (r : List Bool) (i x y : ℕ) (ex : x ≡ at starts i) (ey : y ≡ at ends i) (v : ℕ) where
   -- one edge more
@@ -110,4 +114,4 @@ module _ (labels starts ends : List ℕ) (label : ℕ) (asked : List Bool) (r : 
           → ((isIn asked v && before) || (((eqb (at labels i) label && isIn asked x) && isIn found y) && t))
           ≡ (isIn asked v && (before || (eqb (at labels i) label && (t && isIn found y))))
       here true e = rw (eqb-true x v e) (hit (eqb (at labels i) label) (isIn asked v) (isIn found y) before)
-      here false e = rw (and-false, or-false, and-false, or-false)
+      here false e = simp (and-false, or-false)

@@ -5,11 +5,14 @@ use mathlib.Core.Bool.{Bool, false, _&&_}
 use mathlib.Core.List.{List, [], _∷_}
 use lib.ListN.{getD}
 use lib.Dec.{eqb}
+use Rattle.common.specs.Limits.{mostFormulas}
 use Rattle.common.specs.Lists.{at, any, table}
 use Rattle.common.specs.Sets.{member}
 use Rattle.rows.specs.Op.{opOf}
+use Rattle.policy.specs.declared.Record.{Record}
+use Rattle.policy.specs.Table.{edge, rows}
 use Rattle.formula.specs.declared.Request.{Request}
-use Rattle.formula.specs.Formula.{Context, Formulas, meaning, trueBelow}
+use Rattle.formula.specs.Formula.{Context, Formulas, meaning, trueBelow, formulasOf}
 
 -- v is in the set
 abbrev pub isIn : List Bool → ℕ → Bool
@@ -36,6 +39,10 @@ contextIn q labels from to = contextOf (q .roles) (q .object) (q .requestor) (ed
 -- formula f by its parts, at v
 unfoldable pub formulaAt : Formulas → Context → ℕ → ℕ → Bool
 formulaAt fs c f v = meaning c (opOf (at (fs .ops) f)) (at (fs .lefts) f) (at (fs .rights) f) (trueBelow fs c f) v
+
+-- what `true_at_object` answers on a record's columns, where the requestor s holds the roles
+abbrev pub trueAtObject : Record → ℕ → ℕ → ℕ → ℕ → Bool
+trueAtObject r roles o s f = trueBelow (formulasOf r) (contextOf roles o s (rows edge r)) mostFormulas f o
 
 -- one of the first n user lines in columns is that of s and has role a
 abbrev pub holdsRoleIn : ℕ → List ℕ → List ℕ → ℕ → ℕ → Bool

@@ -11,7 +11,7 @@ use Rattle.common.specs.Sets.{member}
 use Rattle.policy.specs.declared.Record.{Record}
 use Rattle.policy.specs.Table.{edge, rows}
 use Rattle.formula.specs.Formula.{Context, Formulas, holdsRole, trueBelow, formulasOf, holdsOn, holds}
-use Rattle.formula.specs.Evaluation.{formulasIn, edgesIn, contextOf, holdsRoleIn}
+use Rattle.formula.specs.Evaluation.{contextOf, trueAtObject, holdsRoleIn}
 
 module _ (fs : Formulas) (c : Context) where
   -- a formula at or above n is false; below n it is the same for any larger n
@@ -33,13 +33,12 @@ module _ (fs : Formulas) (c : Context) where
 pub role-held : (r : Record) (s a : ℕ) → holdsRoleIn (r .«user_count») (r .«user_objects») (r .«user_roles») s a ≡ holdsRole r s a
 role-held r s a = refl
 
--- THE LAW: what `true_at_object` answers on the columns of a record with at most 64 formulas
+-- THE LAW: `true_at_object`, on the columns of a record with at most 64 formulas, says what the record's formula means
 pub true-at-holds : (r : Record) (f o s roles : ℕ) → ((a : ℕ) → member a roles ≡ holdsRole r s a)
-    → f < r .«formula_count» → r .«formula_count» ≤ mostFormulas
-    → trueBelow (formulasIn (r .«formula_ops») (r .«formula_lefts») (r .«formula_rights»))
-    (contextOf roles o s (edgesIn (r .«edge_count») (r .«edge_labels») (r .«edge_sources») (r .«edge_targets»))) mostFormulas f o
-    ≡ holds r f o o s
+    → f < r .«formula_count» → r .«formula_count» ≤ mostFormulas → trueAtObject r roles o s f ≡ holds r f o o s
 unfolding holds holdsOn
 true-at-holds r f o s roles held l few =
-    below-in _ _ (r .«formula_count») mostFormulas f o l few
-    ∙ (λ j. trueBelow (formulasOf r) (record { roles = λ a. held a j; edges = rows edge r; object = o; requestor = s }) (r .«formula_count») f o)
+    below-in (formulasOf r) (contextOf roles o s (rows edge r)) (r .«formula_count») mostFormulas f o l few
+    ∙ (λ j. trueBelow (formulasOf r)
+    (record { roles = λ a. held a j; edges = rows edge r; object = o; requestor = s })
+    (r .«formula_count») f o)

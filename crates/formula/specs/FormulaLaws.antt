@@ -73,7 +73,7 @@ module _ (c : Context) (es : List (List ℕ)) (same-set : (e : List ℕ) → edg
   same-below fs zero f here = refl
   same-below fs (suc n) f here =
       λ j. cond (eqb f n)
-      (same-meaning (opOf (at (fs .ops) f)) (at (fs .lefts) f) (at (fs .rights) f) (trueBelow fs c n) (trueBelow fs on n) (same-below fs n) here j)
+      (same-meaning (opOf (at (fs .ops) f)) (at (fs .lefts) f) (at (fs .rights) f) _ _ (same-below fs n) here j)
       (same-below fs n f here j)
 
 -- THE LAW

@@ -1,5 +1,5 @@
 // Formulas, evaluated on sets of vertices: a table of 256 bools says at which vertices a formula is true.
-// The columns of a record are lent, so that none is copied; each level of a formula costs two passes over the edges.
+// The columns of a record are lent, so that none is copied. An edge scan is two passes over the edges.
 
 ghost use mathlib.Core.Path.{_≡_};
 ghost use mathlib.Core.Bool.{Bool, false, not, _&&_, _||_};
@@ -13,6 +13,7 @@ ghost use Rattle.common.specs.Sets.{member};
 ghost use Rattle.rows.specs.Op.{opOf};
 ghost use Rattle.formula.specs.Formula.{leads, meaning, trueBelow};
 ghost use Rattle.formula.specs.Evaluation.{isIn, Among, formulasIn, edgesIn, contextOf, contextIn, formulaAt, holdsRoleIn};
+use common::HIGHEST_ROLE;
 use common::MOST_EDGES;
 use common::MOST_FORMULAS;
 use common::MOST_USERS;
@@ -26,11 +27,14 @@ struct Request {
     requestor: u8,
 }
 
+// A set of vertices: for each octet whether it is in the set.
+type Vertices = [bool; 256];
+
 // Role a is one of the roles.
 fn holds_role(roles: u16, a: u8) -> bool
     ensures { λ r. ⌜ r ≡ member a roles ⌝ }
 {
-    if 16 <= a {
+    if HIGHEST_ROLE < a {
         return false;
     }
     (roles >> a) % 2 == 1
@@ -46,14 +50,14 @@ fn index(x: u8) -> usize
 // ---- sets of vertices
 
 // No vertex.
-fn none() -> [bool; 256]
+fn none() -> Vertices
     ensures { λ r. ⌜ (length r ≡ 256) × ((v : ℕ) → isIn r v ≡ false) ⌝ }
 {
     [false; 256]
 }
 
 // Of the asked vertices the vertex x.
-fn only<'a>(asked: &'a [bool; 256], x: u8) -> [bool; 256]
+fn only<'a>(asked: &'a Vertices, x: u8) -> Vertices
     ensures { λ r. ⌜ Among (now (asked .entry)) (λ v. eqb v x) r ⌝ }
 {
     let mut r = none();
@@ -63,7 +67,7 @@ fn only<'a>(asked: &'a [bool; 256], x: u8) -> [bool; 256]
 }
 
 // Of the asked vertices those not in t.
-fn minus(asked: [bool; 256], t: [bool; 256]) -> [bool; 256]
+fn minus(asked: Vertices, t: Vertices) -> Vertices
     ensures { λ r. ⌜ Among asked (λ v. not (isIn t v)) r ⌝ }
 {
     let mut r = none();
@@ -76,7 +80,7 @@ fn minus(asked: [bool; 256], t: [bool; 256]) -> [bool; 256]
 }
 
 // The vertices of a and of b.
-fn union(a: [bool; 256], b: [bool; 256]) -> [bool; 256]
+fn union(a: Vertices, b: Vertices) -> Vertices
     ensures { λ r. ⌜ ((v : ℕ) → isIn r v ≡ (isIn a v || isIn b v)) ⌝ }
 {
     let mut r = none();
@@ -88,18 +92,18 @@ fn union(a: [bool; 256], b: [bool; 256]) -> [bool; 256]
     r
 }
 
-// The vertices where an edge with the label ends that starts at an asked one.
+// The vertices to which an edge with the label leads from an asked one.
 fn ends_from<'a, 'b>(
     n: usize,
     labels: &'a [u8; MOST_EDGES],
     label: u8,
     starts: &'a [u8; MOST_EDGES],
     ends: &'a [u8; MOST_EDGES],
-    asked: &'b [bool; 256],
-) -> [bool; 256]
+    asked: &'b Vertices,
+) -> Vertices
     requires { ⌜ n ≤ mostEdges ⌝ }
     ensures { λ r. ⌜ ((v : ℕ) → isIn r v ≡
-      leads (edgesIn n (now (labels .entry)) (now (starts .entry)) (now (ends .entry))) 2 1 label (isIn (now (asked .entry))) v) ⌝ }
+        leads (edgesIn n (now (labels .entry)) (now (starts .entry)) (now (ends .entry))) 2 1 label (isIn (now (asked .entry))) v) ⌝ }
 {
     let mut r = none();
     let mut i = 0;
@@ -112,19 +116,19 @@ fn ends_from<'a, 'b>(
     r
 }
 
-// Of the asked vertices those where an edge with the label starts that ends at one of `found`.
+// Of the asked vertices those from which an edge with the label leads to one of `found`.
 fn starts_to<'a, 'b, 'c>(
     n: usize,
     labels: &'a [u8; MOST_EDGES],
     label: u8,
     starts: &'a [u8; MOST_EDGES],
     ends: &'a [u8; MOST_EDGES],
-    asked: &'b [bool; 256],
-    found: &'c [bool; 256],
-) -> [bool; 256]
+    asked: &'b Vertices,
+    found: &'c Vertices,
+) -> Vertices
     requires { ⌜ n ≤ mostEdges ⌝ }
     ensures { λ r. ⌜ Among (now (asked .entry))
-      (leads (edgesIn n (now (labels .entry)) (now (starts .entry)) (now (ends .entry))) 1 2 label (isIn (now (found .entry)))) r ⌝ }
+        (leads (edgesIn n (now (labels .entry)) (now (starts .entry)) (now (ends .entry))) 1 2 label (isIn (now (found .entry)))) r ⌝ }
 {
     let mut r = none();
     let mut i = 0;
@@ -140,10 +144,10 @@ fn starts_to<'a, 'b, 'c>(
 // ---- formulas
 
 // Of the asked vertices those where a formula without parts is true: op 0 to 3, with its a.
-fn plain<'a>(q: Request, op: u8, left: u8, asked: &'a [bool; 256]) -> [bool; 256]
+fn plain<'a>(q: Request, op: u8, left: u8, asked: &'a Vertices) -> Vertices
     requires { ⌜ op ≤ 3 ⌝ }
     ensures { λ r. ⌜ ((edges : List (List ℕ)) (b : ℕ) (part : ℕ → ℕ → Bool) →
-      Among (now (asked .entry)) (meaning (contextOf (q .roles) (q .object) (q .requestor) edges) (opOf op) left b part) r) ⌝ }
+        Among (now (asked .entry)) (meaning (contextOf (q .roles) (q .object) (q .requestor) edges) (opOf op) left b part) r) ⌝ }
 {
     match op {
         0 => *asked,
@@ -170,12 +174,12 @@ fn evaluate<'a, 'b>(
     rights: &'a [u8; MOST_FORMULAS],
     n: usize,
     f: usize,
-    asked: &'b [bool; 256],
-) -> [bool; 256]
+    asked: &'b Vertices,
+) -> Vertices
     requires { ⌜ (q .«edge_count» ≤ mostEdges) × (n ≤ mostFormulas) ⌝ }
     ensures { λ r. ⌜ Among (now (asked .entry))
-      (trueBelow (formulasIn (now (ops .entry)) (now (lefts .entry)) (now (rights .entry)))
-      (contextIn q (now (labels .entry)) (now (from .entry)) (now (to .entry))) n f) r ⌝ }
+        (trueBelow (formulasIn (now (ops .entry)) (now (lefts .entry)) (now (rights .entry)))
+        (contextIn q (now (labels .entry)) (now (from .entry)) (now (to .entry))) n f) r ⌝ }
 {
     if n <= f {
         return none();
@@ -200,12 +204,12 @@ fn connective<'a, 'b>(
     lefts: &'a [u8; MOST_FORMULAS],
     rights: &'a [u8; MOST_FORMULAS],
     f: usize,
-    asked: &'b [bool; 256],
-) -> [bool; 256]
+    asked: &'b Vertices,
+) -> Vertices
     requires { ⌜ (q .«edge_count» ≤ mostEdges) × (f < mostFormulas) × (4 ≤ at (now ops) f) × (at (now ops) f ≤ 6) ⌝ }
     ensures { λ r. ⌜ Among (now (asked .entry))
-      (formulaAt (formulasIn (now (ops .entry)) (now (lefts .entry)) (now (rights .entry)))
-      (contextIn q (now (labels .entry)) (now (from .entry)) (now (to .entry))) f) r ⌝ }
+        (formulaAt (formulasIn (now (ops .entry)) (now (lefts .entry)) (now (rights .entry)))
+        (contextIn q (now (labels .entry)) (now (from .entry)) (now (to .entry))) f) r ⌝ }
 {
     let op = ops[f];
     let a = index(lefts[f]);
@@ -221,7 +225,7 @@ fn connective<'a, 'b>(
     }
 }
 
-// Of the asked vertices those where an edge, with the label that formula f names, starts that ends at a vertex where its right
+// Of the asked vertices those from which an edge with the label of formula f leads, from `starts` to `ends`, to one where its right
 // part is true. The part is asked only where such an edge ends.
 fn scan_edges<'a, 'b>(
     q: Request,
@@ -234,13 +238,13 @@ fn scan_edges<'a, 'b>(
     starts: &'a [u8; MOST_EDGES],
     ends: &'a [u8; MOST_EDGES],
     f: usize,
-    asked: &'b [bool; 256],
-) -> [bool; 256]
+    asked: &'b Vertices,
+) -> Vertices
     requires { ⌜ (q .«edge_count» ≤ mostEdges) × (f < mostFormulas) ⌝ }
     ensures { λ r. ⌜ Among (now (asked .entry))
-      (leads (edgesIn (q .«edge_count») (now (labels .entry)) (now (starts .entry)) (now (ends .entry))) 1 2 (at (now (lefts .entry)) f)
-      (trueBelow (formulasIn (now (ops .entry)) (now (lefts .entry)) (now (rights .entry)))
-      (contextIn q (now (labels .entry)) (now (from .entry)) (now (to .entry))) f (at (now (rights .entry)) f))) r ⌝ }
+        (leads (edgesIn (q .«edge_count») (now (labels .entry)) (now (starts .entry)) (now (ends .entry))) 1 2 (at (now (lefts .entry)) f)
+        (trueBelow (formulasIn (now (ops .entry)) (now (lefts .entry)) (now (rights .entry)))
+        (contextIn q (now (labels .entry)) (now (from .entry)) (now (to .entry))) f (at (now (rights .entry)) f))) r ⌝ }
 {
     let n = q.edge_count;
     let a = lefts[f];
@@ -266,8 +270,8 @@ pub fn true_at_object<'a>(
 ) -> bool
     requires { ⌜ «edge_count» ≤ mostEdges ⌝ }
     ensures { λ r. ⌜ r ≡ trueBelow (formulasIn (now (ops .entry)) (now (lefts .entry)) (now (rights .entry)))
-      (contextOf roles object requestor (edgesIn «edge_count» (now (labels .entry)) (now (from .entry)) (now (to .entry))))
-      mostFormulas f object ⌝ }
+        (contextOf roles object requestor (edgesIn «edge_count» (now (labels .entry)) (now (from .entry)) (now (to .entry))))
+        mostFormulas f object ⌝ }
 {
     let q = Request {
         edge_count: edge_count,

@@ -8,6 +8,7 @@ use Rattle.common.specs.Lists.{at, any}
 use Rattle.policy.specs.declared.Record.{Record}
 use Rattle.policy.specs.declared.Memo.{Memo}
 use Rattle.justification.specs.Justification.{members, least}
+use Rattle.memo.specs.declared.Tried.{Tried}
 use Rattle.memo.specs.Memo.{known, value, evaluated}
 
 -- principal p's own formula
@@ -43,6 +44,10 @@ eagerly r k after = outcome after (least r k (λ p. value after (formulaOf r p))
 pub data Weighed : Type 0 where
   survives : Memo → Weighed
   ends : Memo → Weighed
+
+-- the same of the code's answer
+abbrev pub weighedOf : Tried → Weighed
+weighedOf t = cond (t .survives) (survives (t .memo)) (ends (t .memo))
 
 -- members in rising number are evaluated unless known; the first that is not enabled ends the candidate
 unfoldable pub tried : (ℕ → Bool) → Record → Memo → List ℕ → Weighed

@@ -8,14 +8,13 @@ ghost use Rattle.common.specs.Lists.{at, below};
 ghost use Rattle.policy.specs.Table.{Kind};
 ghost use Rattle.policy.specs.Loadable.{tableLoads};
 ghost use Rattle.formula.specs.Formula.{trueBelow};
-ghost use Rattle.formula.specs.Evaluation.{formulasIn, edgesIn, contextOf};
+ghost use Rattle.formula.specs.Evaluation.{formulasIn, edgesIn, contextOf, trueAtObject};
 ghost use Rattle.justification.specs.Justification.{members};
 ghost use Rattle.justification.specs.Parts.{Marks};
 ghost use Rattle.memo.specs.Memo.{known, value, memoFor};
 ghost use Rattle.memo.specs.Memo as memos;
-ghost use Rattle.memo.specs.Walk.{evaluatedAll, tried};
+ghost use Rattle.memo.specs.Walk.{evaluatedAll, tried, weighedOf};
 ghost use Rattle.memo.specs.WalkLaws.{MemoLengths};
-ghost use Rattle.memo.specs.Evaluation.{trueFor, weighedOf};
 use common::MOST_EDGES;
 use common::MOST_FORMULAS;
 use common::MOST_PRINCIPALS;
@@ -119,7 +118,7 @@ fn index(x: u8) -> usize
 // Each principal in rising number has its formula evaluated, unless known.
 pub fn evaluated_all(rules: Record, memo: Memo, roles: u16, question: Question) -> Memo
     requires { ⌜ ((j : Kind) → tableLoads rules j ≡ true) ⌝ }
-    ensures { λ r. ⌜ r ≡ evaluatedAll (trueFor rules roles (question .object) (question .requestor)) rules memo (below (rules .«principal_count»)) ⌝ }
+    ensures { λ r. ⌜ r ≡ evaluatedAll (trueAtObject rules roles (question .object) (question .requestor)) rules memo (below (rules .«principal_count»)) ⌝ }
 {
     let count = rules.principal_count;
     let object = question.object;
@@ -184,7 +183,7 @@ pub fn not_known_false<'a>(count: usize, formulas: &'a [u8; MOST_PRINCIPALS], me
 // The members of c in rising number are evaluated, unless known; the first that is not enabled ends it.
 pub fn weigh(rules: Record, memo: Memo, roles: u16, question: Question, c: u32) -> Tried
     requires { ⌜ ((j : Kind) → tableLoads rules j ≡ true) ⌝ }
-    ensures { λ r. ⌜ weighedOf r ≡ tried (trueFor rules roles (question .object) (question .requestor)) rules memo (members rules c) ⌝ }
+    ensures { λ r. ⌜ weighedOf r ≡ tried (trueAtObject rules roles (question .object) (question .requestor)) rules memo (members rules c) ⌝ }
 {
     let count = rules.principal_count;
     let object = question.object;

@@ -13,7 +13,7 @@ use Rattle.justification.specs.Predicates.{questionRefusal}
 use Rattle.justification.specs.Masked.{found}
 use Rattle.justification.proofs.Asking.{Asked, asked}
 use Rattle.memo.specs.Walk.{searching}
-use Rattle.memo.specs.Evaluation.{trueFor}
+use Rattle.formula.specs.Evaluation.{trueAtObject}
 use Rattle.access.specs.Access.{answered, lazy}
 use Rattle.access.proofs.Answers.{Round, round-first, round-denied, round-granted, round-ended, round-last}
 use Rattle.access.proofs.Answers.{formula-small, lazy-refused, lazy-answer}
@@ -22,7 +22,7 @@ use Rattle.access.proofs.ask_lazy_given.Tie as tie
 
 abbrev Inv-loop : tie.InvT-loop
 Inv-loop loads question rules number before s roles method masks count memo₀ rounds₀ memo rounds =
-    Round (trueFor rules roles (question .object) (question .requestor)) rules (question .method) before rounds memo × (rounds ≤ count + 1)
+    Round (trueAtObject rules roles (question .object) (question .requestor)) rules (question .method) before rounds memo × (rounds ≤ count + 1)
 
 abbrev μ-loop : tie.MeasureT-loop
 μ-loop loads question rules number before s roles method masks count memo₀ rounds₀ memo rounds = count + 1 - rounds
@@ -81,7 +81,7 @@ module _ (a : tie.At-loop Inv-loop μ-loop) where
   entry = start made
 
   abbrev truth : ℕ → Bool
-  truth = trueFor (entry .args .t1) (roles-found .roles-of .result) (entry .args .question .object) (entry .args .question .requestor)
+  truth = trueAtObject (entry .args .t1) (roles-found .roles-of .result) (entry .args .question .object) (entry .args .question .requestor)
 
   whole : answered (entry .args .t1) (made .memo-for .result)
       (searching (entry .args .t1 .«principal_count» + 1) truth (entry .args .t1) (entry .args .question .method) (made .memo-for .result))

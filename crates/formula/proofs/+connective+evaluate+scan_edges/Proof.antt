@@ -1,10 +1,10 @@
 -- Evaluation and edge scan call each other, the formula number falling: the measures are 2n for `evaluate` below n, 2f + 1 for `connective` and `scan_edges` at formula f.
 use Prim.Native.Nat.{ℕ, _+_, _*_, _<_}
-use mathlib.Core.Path.{refl, _∙_}
+use mathlib.Core.Path.{refl}
 use native.Mathlib.Omega.{arith}
 use Rattle.common.specs.Lists.{at}
-use Rattle.formula.specs.Formula.{trueBelow}
-use Rattle.formula.specs.Evaluation.{isIn, formulasIn, edgesIn, contextIn}
+use Rattle.formula.specs.Formula.{Context, Formulas, trueBelow}
+use Rattle.formula.specs.Evaluation.{formulasIn, edgesIn, contextIn}
 use Rattle.formula.proofs.Recursion.{none-below, true-below, by-op, negated, both, either, forward, backward, no-op, scanned}
 use borrow.Author.Needs.{needs}
 use borrow.Fn.Kinds.{In}
@@ -38,27 +38,22 @@ abbrev μ-scan-edges : Measures 2 scan-edges-kinds.ps ℕ
 μ-scan-edges κs a = 2 * a .1 .1 .1 .1 .1 .1 .1 .1 .1 .0 + 1
 
 abbrev connective-at : ℕ → In 2 connective-kinds.ps
-connective-at t =
-    and 2 connective-kinds.ps (is 2 connective-kinds.ps μ-connective t) connective.Pre
+connective-at t = and 2 connective-kinds.ps (is 2 connective-kinds.ps μ-connective t) connective.Pre
 
 abbrev connective-below : ℕ → In 2 connective-kinds.ps
-connective-below t =
-    and 2 connective-kinds.ps (falls 2 connective-kinds.ps _<_ μ-connective t) connective.Pre
+connective-below t = and 2 connective-kinds.ps (falls 2 connective-kinds.ps _<_ μ-connective t) connective.Pre
 
 abbrev evaluate-at : ℕ → In 2 evaluate-kinds.ps
 evaluate-at t = and 2 evaluate-kinds.ps (is 2 evaluate-kinds.ps μ-evaluate t) evaluate.Pre
 
 abbrev evaluate-below : ℕ → In 2 evaluate-kinds.ps
-evaluate-below t =
-    and 2 evaluate-kinds.ps (falls 2 evaluate-kinds.ps _<_ μ-evaluate t) evaluate.Pre
+evaluate-below t = and 2 evaluate-kinds.ps (falls 2 evaluate-kinds.ps _<_ μ-evaluate t) evaluate.Pre
 
 abbrev scan-edges-at : ℕ → In 2 scan-edges-kinds.ps
-scan-edges-at t =
-    and 2 scan-edges-kinds.ps (is 2 scan-edges-kinds.ps μ-scan-edges t) scan-edges.Pre
+scan-edges-at t = and 2 scan-edges-kinds.ps (is 2 scan-edges-kinds.ps μ-scan-edges t) scan-edges.Pre
 
 abbrev scan-edges-below : ℕ → In 2 scan-edges-kinds.ps
-scan-edges-below t =
-    and 2 scan-edges-kinds.ps (falls 2 scan-edges-kinds.ps _<_ μ-scan-edges t) scan-edges.Pre
+scan-edges-below t = and 2 scan-edges-kinds.ps (falls 2 scan-edges-kinds.ps _<_ μ-scan-edges t) scan-edges.Pre
 
 abbrev connective-claims : ℕ → connective-lts.Claims
 connective-claims t = (index-reads.Asked, index-reads.Learnt, evaluate-below t, evaluate.Post, minus-reads.Asked, minus-reads.Learnt, union-reads.Asked, union-reads.Learnt)
@@ -68,6 +63,14 @@ evaluate-claims t = (none-reads.Asked, none-reads.Learnt, scan-edges-below t, sc
 
 abbrev scan-edges-claims : ℕ → scan-edges-lts.Claims
 scan-edges-claims t = (index-reads.Asked, index-reads.Learnt, ends-from-reads.Asked, ends-from-reads.Learnt, evaluate-below t, evaluate.Post, starts-to-reads.Asked, starts-to-reads.Learnt)
+
+module _ (t : ℕ) (s : connective-lts.Start (connective-claims t) (connective-at t) connective.Post) where
+  -- the formulas and the context that a call of `connective` is given
+  abbrev connective-formulas : Formulas
+  connective-formulas = formulasIn (s .args .ops .now) (s .args .lefts .now) (s .args .rights .now)
+
+  abbrev connective-context : Context
+  connective-context = contextIn (s .args .q) (s .args .labels .now) (s .args .from .now) (s .args .to .now)
 
 connective-element-copy-out-op : (t : ℕ) → connective-lts.Need-element-copy-out-op (connective-claims t) (connective-at t) connective.Post
 connective-element-copy-out-op t c = search needs
@@ -102,25 +105,47 @@ connective-union-requires t c κs = search needs
 connective-returns : (t : ℕ) → connective-lts.Need-returns (connective-claims t) (connective-at t) connective.Post
 connective-returns t c =
     let part = c .before .before .before in
-    negated _ _ _ (c .before .before .match .keys1) (part .before .before .before .index .ensures .0) (part .evaluate .ensures) (c .minus .ensures)
+    let b = part .before in
+    let a = b .before .before in
+    let s = a .before .before .before in
+    negated (connective-formulas t s) (connective-context t s) (s .args .f) (s .args .asked .now)
+    (c .before .before .match .keys1) (a .index .ensures .0) (part .evaluate .ensures) (c .minus .ensures)
 
 connective-returns-2 : (t : ℕ) → connective-lts.Need-returns-2 (connective-claims t) (connective-at t) connective.Post
 connective-returns-2 t c =
     let part = c .before .before .before in
     let b = part .before in
-    both _ _ _ (c .before .before .match .keys2) (b .before .before .index .ensures .0) (b .index2 .ensures .0) (part .evaluate .ensures) (c .evaluate2 .ensures)
+    let a = b .before .before in
+    let s = a .before .before .before in
+    both (connective-formulas t s) (connective-context t s) (s .args .f) (s .args .asked .now)
+    (c .before .before .match .keys2) (a .index .ensures .0) (b .index2 .ensures .0) (part .evaluate .ensures) (c .evaluate2 .ensures)
 
 connective-returns-3 : (t : ℕ) → connective-lts.Need-returns-3 (connective-claims t) (connective-at t) connective.Post
 connective-returns-3 t c =
     let part = c .before .before .before in
     let b = part .before in
-    either _ _ _ (omega arith) (b .before .before .index .ensures .0) (b .index2 .ensures .0) (part .evaluate .ensures) (c .before .evaluate3 .ensures) (c .union .ensures)
+    let a = b .before .before in
+    let s = a .before .before .before in
+    either (connective-formulas t s) (connective-context t s) (s .args .f) (s .args .asked .now)
+    (omega (arith, s .pre .1 .2, s .pre .1 .3, c .before .before .match .rest .0 .1, c .before .before .match .rest .1))
+    (a .index .ensures .0) (b .index2 .ensures .0) (part .evaluate .ensures) (c .before .evaluate3 .ensures) (c .union .ensures)
+
+module _ (t : ℕ) (s : evaluate-lts.Start (evaluate-claims t) (evaluate-at t) evaluate.Post) where
+  -- the formulas and the context that a call of `evaluate` is given
+  abbrev evaluate-formulas : Formulas
+  evaluate-formulas = formulasIn (s .args .ops .now) (s .args .lefts .now) (s .args .rights .now)
+
+  abbrev evaluate-context : Context
+  evaluate-context = contextIn (s .args .q) (s .args .labels .now) (s .args .from .now) (s .args .to .now)
 
 evaluate-none-requires : (t : ℕ) → evaluate-lts.Need-none-requires (evaluate-claims t) (evaluate-at t) evaluate.Post
 evaluate-none-requires t c κs = search needs
 
 evaluate-returns : (t : ℕ) → evaluate-lts.Need-returns (evaluate-claims t) (evaluate-at t) evaluate.Post
-evaluate-returns t c = none-below _ _ _ _ (c .before .if1 .taken) (c .none .ensures .1)
+evaluate-returns t c =
+    let s = c .before .before in
+    none-below (evaluate-formulas t s) (evaluate-context t s) (s .args .f) (s .args .asked .now) (s .args .n)
+    (c .before .if1 .taken) (c .none .ensures .1)
 
 evaluate-element-copy-out-op : (t : ℕ) → evaluate-lts.Need-element-copy-out-op (evaluate-claims t) (evaluate-at t) evaluate.Post
 evaluate-element-copy-out-op t c = search needs
@@ -146,29 +171,46 @@ evaluate-none-requires-2 t c κs = search needs
 evaluate-returns-2 : (t : ℕ) → evaluate-lts.Need-returns-2 (evaluate-claims t) (evaluate-at t) evaluate.Post
 evaluate-returns-2 t c =
     let read = c .before .before in
-    true-below _ _ _ _ (read .before .if1 .left) (forward _ _ _ (c .before .match .keys1) (c .scan-edges .ensures))
+    let s = read .before .before in
+    true-below (evaluate-formulas t s) (evaluate-context t s) (s .args .f) (s .args .asked .now) (s .args .n) (read .before .if1 .left)
+    (forward (evaluate-formulas t s) (evaluate-context t s) (s .args .f) (s .args .asked .now) (c .before .match .keys1) (c .scan-edges .ensures))
 
 evaluate-returns-3 : (t : ℕ) → evaluate-lts.Need-returns-3 (evaluate-claims t) (evaluate-at t) evaluate.Post
 evaluate-returns-3 t c =
     let read = c .before .before in
-    let a = read .before .before .args in
-    true-below _ _ _ _ (read .before .if1 .left)
-    (backward _ (contextIn (a .q) (a .labels .now) (a .from .now) (a .to .now)) _ (a .q .«edge_count») (a .labels .now) (a .from .now) (a .to .now) refl (c .before .match .keys2) (c .scan-edges2 .ensures))
+    let s = read .before .before in
+    true-below (evaluate-formulas t s) (evaluate-context t s) (s .args .f) (s .args .asked .now) (s .args .n) (read .before .if1 .left)
+    (backward (evaluate-formulas t s) (evaluate-context t s) (s .args .f) (s .args .asked .now)
+    (s .args .q .«edge_count») (s .args .labels .now) (s .args .from .now) (s .args .to .now) refl (c .before .match .keys2) (c .scan-edges2 .ensures))
 
 evaluate-returns-4 : (t : ℕ) → evaluate-lts.Need-returns-4 (evaluate-claims t) (evaluate-at t) evaluate.Post
 evaluate-returns-4 t c =
     let read = c .before .before .before .before in
-    true-below _ _ _ _ (read .before .if1 .left) (by-op _ _ _ _ refl (c .plain .ensures _ _ _))
+    let s = read .before .before in
+    true-below (evaluate-formulas t s) (evaluate-context t s) (s .args .f) (s .args .asked .now) (s .args .n) (read .before .if1 .left)
+    (by-op (evaluate-formulas t s) (evaluate-context t s) (s .args .f) (s .args .asked .now) _ refl (c .plain .ensures _ _ _))
 
 evaluate-returns-5 : (t : ℕ) → evaluate-lts.Need-returns-5 (evaluate-claims t) (evaluate-at t) evaluate.Post
 evaluate-returns-5 t c =
     let read = c .before .before .before .before in
-    true-below _ _ _ _ (read .before .if1 .left) (c .connective .ensures)
+    let s = read .before .before in
+    true-below (evaluate-formulas t s) (evaluate-context t s) (s .args .f) (s .args .asked .now) (s .args .n) (read .before .if1 .left)
+    (c .connective .ensures)
 
 evaluate-returns-6 : (t : ℕ) → evaluate-lts.Need-returns-6 (evaluate-claims t) (evaluate-at t) evaluate.Post
 evaluate-returns-6 t c =
     let read = c .before .before .before .before in
-    true-below _ _ _ _ (read .before .if1 .left) (no-op _ _ _ (omega arith) (c .none2 .ensures .1))
+    let s = read .before .before in
+    true-below (evaluate-formulas t s) (evaluate-context t s) (s .args .f) (s .args .asked .now) (s .args .n) (read .before .if1 .left)
+    (no-op (evaluate-formulas t s) (evaluate-context t s) (s .args .f) (s .args .asked .now) (omega arith) (c .none2 .ensures .1))
+
+module _ (t : ℕ) (s : scan-edges-lts.Start (scan-edges-claims t) (scan-edges-at t) scan-edges.Post) where
+  -- the formulas and the context that a call of `scan_edges` is given
+  abbrev scan-edges-formulas : Formulas
+  scan-edges-formulas = formulasIn (s .args .ops .now) (s .args .lefts .now) (s .args .rights .now)
+
+  abbrev scan-edges-context : Context
+  scan-edges-context = contextIn (s .args .q) (s .args .labels .now) (s .args .from .now) (s .args .to .now)
 
 scan-edges-element-copy-out-a : (t : ℕ) → scan-edges-lts.Need-element-copy-out-a (scan-edges-claims t) (scan-edges-at t) scan-edges.Post
 scan-edges-element-copy-out-a t c = search needs
@@ -192,10 +234,12 @@ scan-edges-returns : (t : ℕ) → scan-edges-lts.Need-returns (scan-edges-claim
 scan-edges-returns t c =
     let found = c .before .before in
     let reached = found .before .before in
-    let a = reached .before .before .before .before .args in
+    let b = reached .before in
+    let s = b .before .before .before in
+    let a = s .args in
     scanned (edgesIn (a .q .«edge_count») (a .labels .now) (a .starts .now) (a .ends .now)) (at (a .lefts .now) (a .f)) (at (a .rights .now) (a .f))
-    (trueBelow (formulasIn (a .ops .now) (a .lefts .now) (a .rights .now)) (contextIn (a .q) (a .labels .now) (a .from .now) (a .to .now)) (a .f))
-    (reached .before .index .ensures .0) (reached .ends-from .ensures) (found .evaluate .ensures) (c .starts-to .ensures)
+    (trueBelow (scan-edges-formulas t s) (scan-edges-context t s) (a .f))
+    (b .index .ensures .0) (reached .ends-from .ensures) (found .evaluate .ensures) (c .starts-to .ensures)
 
 pub +connective+evaluate+scan-edges-spec : {M : Type 1} → statement M
 +connective+evaluate+scan-edges-spec =

@@ -6,7 +6,6 @@ use lib.ListN.{length}
 use Rattle.formula.specs.Evaluation.{isIn}
 use Rattle.formula.proofs.VertexSets.{stored, picked}
 use borrow.Author.Needs.{needs}
-use borrow.Author.Needs.{needs}
 use Rattle.formula.proofs.only.Statement.{statement}
 use Rattle.formula.proofs.only.Tie as tie
 

@@ -1,14 +1,12 @@
 -- `true_at_object` meets its contract.
-use Prim.Native.Nat.{ℕ, _<_}
-use mathlib.Core.Path.{_∙_}
-use mathlib.Core.Bool.{true, false, _&&_}
+use Prim.Native.Nat.{_<_}
+use mathlib.Core.Path.{_≡_}
+use mathlib.Core.Bool.{true, false}
 use native.Mathlib.Omega.{arith}
 use lib.ListN.{length}
 use lib.Seq.{getD-set-same}
 use borrow.Author.Needs.{needs}
-use Rattle.common.specs.Limits.{mostFormulas}
-use Rattle.formula.specs.Formula.{trueBelow}
-use Rattle.formula.specs.Evaluation.{formulasIn, edgesIn, contextOf}
+use Rattle.formula.proofs.VertexSets.{at-asked}
 use Rattle.formula.proofs.true_at_object.Statement.{statement}
 use Rattle.formula.proofs.true_at_object.Tie as tie
 
@@ -32,13 +30,9 @@ returns : tie.Need-returns
 returns c =
     let none = c .before .before .none in
     let here = c .before .before .before .index in
-    let a = c .before .before .before .before .args in
     let h : here .result < length (none .result) = omega (arith, here .ensures .1, none .ensures .0) in
-    c .evaluate .ensures .members (here .result)
-    ∙ (λ j. getD-set-same (none .result) (here .result) true false h j
-    && trueBelow (formulasIn (a .ops .now) (a .lefts .now) (a .rights .now))
-    (contextOf (a .roles) (a .object) (a .requestor) (edgesIn (a .«edge-count») (a .labels .now) (a .from .now) (a .to .now)))
-    mostFormulas (a .f) (here .ensures .0 j))
+    let at-object : here .result ≡ c .before .before .before .before .args .object = here .ensures .0 in
+    at-asked (c .evaluate .ensures) at-object (getD-set-same (none .result) (here .result) true false h)
 
 pub true-at-object-spec : {M : Type 1} → statement M
 true-at-object-spec =

@@ -1,17 +1,17 @@
 -- `enabled_of` meets its contract: what is evaluated on the columns of the record is what its formulas mean.
 use Prim.Native.Nat.{ℕ, _-_, _≤_, _<_}
 use mathlib.Core.Path.{_≡_, refl, sym, _∙_, ap}
-use mathlib.Core.Bool.{Bool, true, false≢true}
+use mathlib.Core.Bool.{true, false≢true}
 use native.Mathlib.Omega.{arith}
 use borrow.Author.Needs.{needs}
-use Rattle.common.specs.Limits.{mostFormulas, mostPrincipals}
+use Rattle.common.specs.Limits.{mostPrincipals}
 use Rattle.common.specs.Lists.{at}
 use Rattle.common.specs.Sets.{In}
 use Rattle.policy.specs.declared.Record.{Record}
 use Rattle.policy.specs.Table.{user, edge, formula, principal}
 use Rattle.policy.specs.LoadableLaws.{table-few}
-use Rattle.formula.specs.Formula.{trueBelow, holds}
-use Rattle.formula.specs.Evaluation.{formulasIn, edgesIn, contextOf}
+use Rattle.formula.specs.Formula.{holds}
+use Rattle.formula.specs.Evaluation.{trueAtObject}
 use Rattle.formula.specs.EvaluationLaws.{true-at-holds}
 use Rattle.justification.specs.declared.Question.{Question}
 use Rattle.justification.specs.Predicates.{isEnabled}
@@ -21,15 +21,9 @@ use Rattle.justification.proofs.Marking.{those-none, those-more, those-
 use Rattle.justification.proofs.enabled_of.Statement.{statement}
 use Rattle.justification.proofs.enabled_of.Tie as tie
 
--- formula f on the columns of a record, at the object
-abbrev true-on : Record → ℕ → ℕ → ℕ → ℕ → Bool
-true-on r roles o s f =
-    trueBelow (formulasIn (r .«formula_ops») (r .«formula_lefts») (r .«formula_rights»))
-    (contextOf roles o s (edgesIn (r .«edge_count») (r .«edge_labels») (r .«edge_sources») (r .«edge_targets»))) mostFormulas f o
-
 abbrev Inv-loop : tie.InvT-loop
 Inv-loop among rules n object requestor roles s₀ p₀ s p =
-    Those p (λ k. (In k among) × (true-on rules roles object requestor (at (rules .«principal_formulas») k) ≡ true)) s × (p ≤ n)
+    Those p (λ k. (In k among) × (trueAtObject rules roles object requestor (at (rules .«principal_formulas») k) ≡ true)) s × (p ≤ n)
 
 abbrev μ-loop : tie.MeasureT-loop
 μ-loop among rules n object requestor roles s₀ p₀ s p = n - p
@@ -88,7 +82,7 @@ loop-again c =
     let a = entry (i .before) .args in
     let is =
     t .true-at-object .ensures
-    ∙ ap (λ (f : ℕ). true-on (a .t1) (i .before .before .roles-of .result) (a .question .object) (a .question .requestor) f) (x .index .ensures) in
+    ∙ ap (λ (f : ℕ). trueAtObject (a .t1) (i .before .before .roles-of .result) (a .question .object) (a .question .requestor) f) (x .index .ensures) in
     (those-more (i .before .loop .inv .0) (t .true-at-object .result)
     (record {
       yes = λ e. (h .has .ensures .yes (x .before .before .if1 .taken), sym is ∙ e);
@@ -111,7 +105,7 @@ returns c =
     let r = s .args .t1 in
     let q = s .args .question in
     let roles = a .before .roles-of .result in
-    let same : (p : ℕ) → p < r .«principal_count» → true-on r roles (q .object) (q .requestor) (at (r .«principal_formulas») p) ≡ isEnabled r q p =
+    let same : (p : ℕ) → p < r .«principal_count» → trueAtObject r roles (q .object) (q .requestor) (at (r .«principal_formulas») p) ≡ isEnabled r q p =
     λ p l.
         true-at-holds r (at (r .«principal_formulas») p) (q .object) (q .requestor) roles (a .before .roles-of .ensures)
         (principal-named r (s .pre) p l .0) (table-few r formula (s .pre formula))

@@ -9,14 +9,14 @@ use Rattle.policy.specs.Table.{edge, formula, principal}
 use Rattle.policy.specs.LoadableLaws.{table-few}
 use Rattle.justification.specs.NamedLaws.{principal-named}
 use Rattle.memo.specs.Walk.{formulaOf, evaluatedAll}
-use Rattle.memo.specs.Evaluation.{trueFor}
+use Rattle.formula.specs.Evaluation.{trueAtObject}
 use Rattle.memo.proofs.Memos.{evaluated-none, evaluated-more}
 use Rattle.memo.proofs.evaluated_all.Statement.{statement}
 use Rattle.memo.proofs.evaluated_all.Tie as tie
 
 abbrev Inv-loop : tie.InvT-loop
 Inv-loop roles rules count object requestor m₀ p₀ m p =
-    (m ≡ evaluatedAll (trueFor rules roles object requestor) rules m₀ (below p)) × (p ≤ count)
+    (m ≡ evaluatedAll (trueAtObject rules roles object requestor) rules m₀ (below p)) × (p ≤ count)
 
 abbrev μ-loop : tie.MeasureT-loop
 μ-loop roles rules count object requestor m₀ p₀ m p = count - p
@@ -74,7 +74,7 @@ returns c =
     let s = l .before .args in
     let e : l .loop .p ≡ s .t1 .«principal_count» = omega (arith, c .loop-test .left, l .loop .inv .1) in
     l .loop .inv .0
-    ∙ ap (λ (n : ℕ). evaluatedAll (trueFor (s .t1) (s .roles) (s .question .object) (s .question .requestor)) (s .t1) (s .memo) (below n)) e
+    ∙ ap (λ (n : ℕ). evaluatedAll (trueAtObject (s .t1) (s .roles) (s .question .object) (s .question .requestor)) (s .t1) (s .memo) (below n)) e
 
 pub evaluated-all-spec : {M : Type 1} → statement M
 evaluated-all-spec =

@@ -8,13 +8,13 @@ use Rattle.policy.specs.Table.{edge, formula, principal}
 use Rattle.policy.specs.LoadableLaws.{table-few}
 use Rattle.justification.specs.NamedLaws.{principal-named}
 use Rattle.memo.specs.Walk.{formulaOf}
-use Rattle.memo.specs.Evaluation.{trueFor}
+use Rattle.formula.specs.Evaluation.{trueAtObject}
 use Rattle.memo.proofs.Weighing.{Left, left-all, left-skip, left-on, left-ends, left-none}
 use Rattle.memo.proofs.weigh.Statement.{statement}
 use Rattle.memo.proofs.weigh.Tie as tie
 
 abbrev Inv-loop : tie.InvT-loop
-Inv-loop roles c rules count object requestor m₀ p₀ m p = Left (trueFor rules roles object requestor) rules c m₀ p m × (p ≤ count)
+Inv-loop roles c rules count object requestor m₀ p₀ m p = Left (trueAtObject rules roles object requestor) rules c m₀ p m × (p ≤ count)
 
 abbrev μ-loop : tie.MeasureT-loop
 μ-loop roles c rules count object requestor m₀ p₀ m p = count - p
