@@ -34,8 +34,12 @@ pub record TableKind (kind : ℕ) : Type 0 where
 abbrev pub wideAt : ℕ → List ℕ → ℕ
 wideAt kind t = cond (eqb kind (code demarcation)) (numberAt t 2 8) (cond (eqb kind (code method)) (numberAt t 3 8) 0)
 
+-- three octets up to the formulas' kind, two and perhaps a number of eight octets after it
 abbrev pub rowAt : ℕ → List ℕ → Row
-rowAt kind t = record { a = octetAt t 2; b = octetAt t 3; c = octetAt t 4; roles = octetAt t 3 * 256 + octetAt t 4; wide = wideAt kind t }
+rowAt kind t =
+    cond (leb kind (code formula))
+    (record { a = octetAt t 2; b = octetAt t 3; c = octetAt t 4; roles = octetAt t 3 * 256 + octetAt t 4; wide = 0 })
+    (record { a = octetAt t 2; b = octetAt t 3; c = 0; roles = 0; wide = wideAt kind t })
 
 -- as the numbers of the kind's body
 abbrev pub fieldsOf : Kind → Row → List ℕ

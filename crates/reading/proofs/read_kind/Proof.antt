@@ -24,12 +24,15 @@ Inv-loop text kind size cursor₀ rules₀ count₀ least-key₀ heights₀ curs
 abbrev μ-loop : tie.MeasureT-loop
 μ-loop text kind size cursor₀ rules₀ count₀ least-key₀ heights₀ cursor rules count least-key heights = length text - cursor .offset
 
--- the function's entry from the loop, and the loop from a line that is taken
+-- the function's entry from the loop, and the loop from a line that was judged, and from one that is taken
 abbrev entry : tie.At-loop Inv-loop μ-loop → tie.Start Inv-loop μ-loop
 entry h = h .before .before .before .before .before .before
 
+abbrev judged : tie.After-judged-line Inv-loop μ-loop → tie.At-loop Inv-loop μ-loop
+judged l = l .before .before
+
 abbrev turn : tie.After-row Inv-loop μ-loop → tie.At-loop Inv-loop μ-loop
-turn q = q .before .before .before
+turn q = judged (q .before .before)
 
 returns : tie.Need-returns Inv-loop μ-loop
 returns c = reads-refused _ _ _ (c .if1 .taken)
@@ -38,7 +41,10 @@ loop-holds : tie.Need-loop-holds Inv-loop μ-loop
 loop-holds c = let s = c .before .before .before .before .before in taken-start _ (s .pre .0) _ (c .before .if1 .left) (s .pre .1 (c .before .if1 .left))
 
 judged-line-requires : tie.Need-judged-line-requires Inv-loop μ-loop
-judged-line-requires c κs = let w = entry c .pre .0 in (w .table, taken-bound w (c .loop .inv), taken-heights w (c .loop .inv))
+judged-line-requires c κs =
+    let h = c .before in
+    let w = entry h .pre .0 in
+    (w .table, taken-bound w (h .loop .inv), taken-heights w (h .loop .inv))
 
 enum-told : tie.Need-enum-told Inv-loop μ-loop
 enum-told c = search needs
@@ -46,20 +52,20 @@ enum-told c = search needs
 returns-2 : tie.Need-returns-2 Inv-loop μ-loop
 returns-2 c =
     let l = c .before .before in
-    let h = l .before in
+    let h = judged l in
     taken-all (entry h .pre .0) (h .loop .inv) (subst (Judges _ _ _ _ _ _) (c .enum-told .given .1) (l .judged-line .ensures))
 
 enum-known-number : tie.Need-enum-known-number Inv-loop μ-loop
 enum-known-number c = search needs
 
 stopped-requires : tie.Need-stopped-requires Inv-loop μ-loop
-stopped-requires c κs = let h = c .before .before .before .before in taken-bound (entry h .pre .0) (h .loop .inv) .few
+stopped-requires c κs = let h = judged (c .before .before .before) in taken-bound (entry h .pre .0) (h .loop .inv) .few
 
 returns-3 : tie.Need-returns-3 Inv-loop μ-loop
 returns-3 c =
     let n = c .before .before in
     let l = n .before .before in
-    let h = l .before in
+    let h = judged l in
     subst (Reads _ _ _) (sym (c .stopped .ensures))
     (taken-refused (entry h .pre .0) (h .loop .inv) (subst (Judges _ _ _ _ _ _) (n .number .given .1) (l .judged-line .ensures)))
 
