@@ -1,4 +1,4 @@
-// One line of a bundle, for a reader of the lines of one kind: what stands at an offset, its numbers, what refuses them, and the cursor past it.
+// One line of a bundle, for a reader of lines of one kind: what stands at an offset, its numbers, what refuses them, the cursor past it.
 
 ghost use mathlib.Core.Path.{_≡_};
 ghost use Prim.Native.Nat.{_+_, _*_, _≤_};
@@ -7,7 +7,8 @@ ghost use Rattle.common.specs.Lists.{at};
 ghost use Rattle.policy.specs.Table.{kindOf};
 ghost use Rattle.policy.specs.Rows.{key};
 ghost use Rattle.lines.specs.NextLine.{nextOf, numberAt};
-ghost use Rattle.lines.specs.Judging.{wideAt, rowAt, fieldsOf, heightBy, refusalBy, mostLineSum, movedPast, Judges, TableKind, HeightsLow, CursorBound};
+ghost use Rattle.lines.specs.Judging.{TableKind, wideAt, rowAt, fieldsOf, heightBy, refusalBy, HeightsLow};
+ghost use Rattle.lines.specs.Judging.{mostLineSum, CursorBound, movedPast, Judges};
 use octets::Line;
 
 // ---- what stands at an offset
@@ -93,7 +94,7 @@ fn wide_at(text: &[u8], offset: usize, kind: u8) -> u64
     0
 }
 
-// The numbers of the line of a kind at an offset. The third octet is read only where the kind has one, since reading is most of loading's work.
+// The numbers of the line of a kind at an offset. The third octet is read only where the kind has one: octets are most of loading's work.
 fn row_at(text: &[u8], offset: usize, kind: u8) -> Row
     ensures { λ r. ⌜ r ≡ rowAt kind (drop offset (now (text .entry))) ⌝ }
 {
