@@ -18,7 +18,7 @@ use Rattle.rows.specs.Checks.{causes}
 use Rattle.policy.specs.Rows.{limited, rising, key, minimumKey, inRange, rowCauses}
 use Rattle.reading.specs.declared.Loaded.{Loaded}
 use Rattle.reading.specs.Body.{numbers}
-use Rattle.reading.specs.Loading.{Reading, atTop, misplaced, endWrong, lineRefusal, afterLine, notLoaded, atEnd, read, load}
+use Rattle.reading.specs.Loading.{Reading, atTop, misplaced, endWrong, lineRefusal, afterLine, notLoaded, afterLastLine, read, load}
 use Rattle.bundle.specs.Writing.{bundleOf}
 use Rattle.bundle.specs.FramedLaws.{Lines, lines-checked}
 use Rattle.bundle.specs.FramedLaws.Lines.{none, more}
@@ -52,8 +52,8 @@ line-number t k os =
     go false false false false true = omega arith
     go false false false false false = omega arith
 
-end-number : (t : Reading) → atEnd t .number ≤ 9
-unfolding atEnd
+end-number : (t : Reading) → afterLastLine t .number ≤ 9
+unfolding afterLastLine
 end-number t = go (eqb (t .last) 0xFF) (circular (rows hierarchy (t .rules)) || circular (rows prerequisite (t .rules)))
   where
     go : (x y : Bool) → cond (not x) (notLoaded wrongEnd (t .lines + 1)) (cond y (notLoaded refusals.circle (t .lines)) (record { number = 0; line = 0; rules = t .rules })) .number ≤ 9

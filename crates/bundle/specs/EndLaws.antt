@@ -18,7 +18,7 @@ use Rattle.policy.specs.Rows.{inRange, rowCauses, rowRefusal}
 use Rattle.policy.specs.Loadable.{tableLoads, loadable}
 use Rattle.reading.specs.Body.{numbers}
 use Rattle.bundle.specs.Writing.{lineOctets, withEnd}
-use Rattle.reading.specs.Loading.{Reading, endWrong, afterLine, notLoaded, atEnd}
+use Rattle.reading.specs.Loading.{Reading, endWrong, afterLine, notLoaded, afterLastLine}
 use Rattle.reading.specs.LoadingLaws.{Taken}
 use Rattle.bundle.specs.BodyLaws.{line-kind, line-size, line-numbers}
 use Rattle.bundle.specs.ReadingLaws.{Read, read-more}
@@ -67,8 +67,8 @@ no-circle r m loads =
     rw (not-true (circular (rows hierarchy r)) (p .0), not-true (circular (rows prerequisite r)) (p .1))
 
 pub at-end : (r : Record) (m : Memo) → loadable r ≡ true → (t : Reading) (os : List ℕ) → t .rules ≡ withMemo r m
-    → atEnd (afterLine t end os) ≡ record { number = 0; line = 0; rules = withMemo r m }
-unfolding atEnd afterLine appended
+    → afterLastLine (afterLine t end os) ≡ record { number = 0; line = 0; rules = withMemo r m }
+unfolding afterLastLine afterLine appended
 at-end r m loads t os e =
     ap (λ (p : Record). cond (circular (rows hierarchy p) || circular (rows prerequisite p)) (notLoaded refusals.circle (t .lines + 1)) (record { number = 0; line = 0; rules = p })) e
     ∙ rw (no-circle r m loads)

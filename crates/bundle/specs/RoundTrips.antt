@@ -18,7 +18,7 @@ use Rattle.policy.specs.TableLaws.{Sized, sized}
 use Rattle.policy.specs.ColumnLaws.{loadable-memo}
 use Rattle.reading.specs.declared.Loaded.{Loaded}
 use Rattle.reading.specs.Loading.{load}
-use Rattle.reading.specs.LoadingLaws.{load-good}
+use Rattle.reading.specs.LoadingLaws.{as-loaded}
 use Rattle.bundle.specs.declared.Written.{Written}
 use Rattle.bundle.specs.Writing.{bundleOf, lengthNeeded, written, writeRefusal, bufferAfter}
 use Rattle.bundle.specs.Typed.{Typed}
@@ -48,7 +48,7 @@ loadable-exactly r t = (λ e. (bundleOf r, write-load r t e), back)
     back : (text : List ℕ) × (load text ≡ loadsTo r) → loadable r ≡ true
     back (text, e) =
         let rules : load text .rules ≡ withMemo r (emptied 0 0) = ap (λ (l : Loaded). l .rules) e in
-        let loads = subst (λ (x : Record). loadable x ≡ true) rules (load-good text (ap (λ (l : Loaded). l .number) e) .loads) in
+        let loads = subst (λ (x : Record). loadable x ≡ true) rules (as-loaded text (ap (λ (l : Loaded). l .number) e) .loads) in
         subst (λ (x : Record). loadable x ≡ true) (memo-again r) (loadable-memo (withMemo r (emptied 0 0)) (r .memo) (sized-memo r (t .sized)) loads)
 
 -- ---- what the writer's contract then says
@@ -80,7 +80,7 @@ unfolding written lengthNeeded bufferAfter writeRefusal
 loaded-written text {before} e c room =
     let r = load text .rules in
     let same = load-write text e in
-    let loads = load-good text e .loads in
+    let loads = as-loaded text e .loads in
     let short = le-ltb (length before) (length (bundleOf r)) (subst (λ (t : List ℕ). length t ≤ length before) (sym same) room) in (
       c .answers ∙ rw (loads, short) (λ j. record { number = 0; length = length (same j) }),
       c .buffer ∙ rw (loads, short) (λ j. same j ++ drop (length (same j)) before),

@@ -20,7 +20,7 @@ use Rattle.policy.specs.Rows.{inRange, rowCauses, rowRefusal}
 use Rattle.policy.specs.RowLaws.{passed}
 use Rattle.reading.specs.declared.Loaded.{Loaded}
 use Rattle.reading.specs.Body.{numbers}
-use Rattle.reading.specs.Loading.{Reading, atTop, misplaced, endWrong, lineRefusal, afterLine, notLoaded, atEnd, read, load}
+use Rattle.reading.specs.Loading.{Reading, atTop, misplaced, endWrong, lineRefusal, afterLine, notLoaded, afterLastLine, read, load}
 use Rattle.reading.specs.LoadingLaws.{none-first}
 use Rattle.bundle.specs.FramedLaws.{Lines, lines-checked}
 use Rattle.bundle.specs.FramedLaws.Lines.{none, more}
@@ -41,8 +41,8 @@ read-taken t os ls e₀ = go (eqb (lineRefusal t (kindOf (kindOctet os)) os) 0) 
     go false p l e = absurd (eqb-false _ _ p e)
 
 -- after the last line: the end line was read, and the record is handed over
-pub end-taken : (t : Reading) → atEnd t .number ≡ 0 → (t .last ≡ 0xFF) × (atEnd t .rules ≡ t .rules)
-unfolding atEnd
+pub end-taken : (t : Reading) → afterLastLine t .number ≡ 0 → (t .last ≡ 0xFF) × (afterLastLine t .rules ≡ t .rules)
+unfolding afterLastLine
 end-taken t = go (eqb (t .last) 0xFF) (circular (rows hierarchy (t .rules)) || circular (rows prerequisite (t .rules))) refl
   where
     go : (x y : Bool) → eqb (t .last) 0xFF ≡ x

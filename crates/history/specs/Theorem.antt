@@ -27,7 +27,7 @@ use Rattle.justification.specs.Justification.{members, meets, consistent, least
 use Rattle.justification.specs.Order.{IsLeast}
 use Rattle.justification.specs.OrderFact as order
 use Rattle.reading.specs.Loading.{load}
-use Rattle.reading.specs.LoadingLaws.{load-good}
+use Rattle.reading.specs.LoadingLaws.{as-loaded}
 use Rattle.access.specs.declared.Answer.{Answer}
 use Rattle.access.specs.Access.{refused, eager, lazy}
 use Rattle.access.specs.CorrectMemo.{CorrectMemo}
@@ -221,7 +221,7 @@ list-holds b (c ∷ cs) book r h = (call-holds b book r h c, list-holds b cs (bo
 -- a record just loaded agrees the book of its own edges
 pub start : (text : List ℕ) → load text .number ≡ 0 → Agrees (load text .rules) (rows edge (load text .rules)) (load text .rules)
 start text e =
-    let g = load-good text e in
+    let g = as-loaded text e in
     let r = load text .rules in
     record {
       loads = g .loads;

@@ -10,7 +10,8 @@ use Rattle.common.specs.Lists.{at}
 use Rattle.common.specs.Limits.{mostEdges, mostFormulas, mostDemarcations, mostPrincipals, mostMethods, mostLines}
 use Rattle.common.specs.Causes.{first}
 use Rattle.octets.specs.Answers.{octetAt}
-use Rattle.policy.specs.Table.{Kind, head, user, edge, formula, demarcation, hierarchy, principal, exclusion, prerequisite, method, end, code, kindOf}
+use Rattle.policy.specs.Table.{Kind, code, kindOf}
+use Rattle.policy.specs.Table.{head, user, edge, formula, demarcation, hierarchy, principal, exclusion, prerequisite, method, end}
 use Rattle.policy.specs.Rows.{key}
 use Rattle.rows.specs.Op.{opOf, heightOf, formulaInRange}
 use Rattle.rows.specs.Checks.{edgeInRange, pairInRange, edgeKey, pairKey, causes}
@@ -34,8 +35,12 @@ pub record TableKind (kind : ℕ) : Type 0 where
 abbrev pub wideAt : ℕ → List ℕ → ℕ
 wideAt kind t = cond (eqb kind (code demarcation)) (numberAt t 2 8) (cond (eqb kind (code method)) (numberAt t 3 8) 0)
 
+-- three octets up to the formulas' kind, two and perhaps a number of eight octets after it
 abbrev pub rowAt : ℕ → List ℕ → Row
-rowAt kind t = record { a = octetAt t 2; b = octetAt t 3; c = octetAt t 4; roles = octetAt t 3 * 256 + octetAt t 4; wide = wideAt kind t }
+rowAt kind t =
+    cond (leb kind (code formula))
+    (record { a = octetAt t 2; b = octetAt t 3; c = octetAt t 4; roles = octetAt t 3 * 256 + octetAt t 4; wide = 0 })
+    (record { a = octetAt t 2; b = octetAt t 3; c = 0; roles = 0; wide = wideAt kind t })
 
 -- as the numbers of the kind's body
 abbrev pub fieldsOf : Kind → Row → List ℕ
@@ -57,15 +62,18 @@ fieldsOf end v = []
 abbrev pub heightBy : ℕ → Row → (ℕ → ℕ) → ℕ
 heightBy kind v heights = cond (eqb kind (code formula)) (heightOf (opOf (v .a)) (v .b) (v .c) heights) 0
 
+-- 5, 6 and 7: over the kind's limit, out of range, not rising
 abbrev pub refusalBy : Kind → Bounds → ℕ → Row → ℕ
 refusalBy head m h v = 0
 refusalBy user m h v = first (causes false (not (ltb (v .a) (m .objects))) (ltb (v .a) (m .«least_key»)))
 refusalBy edge m h v =
     first
-    (causes (leb mostEdges (m .row)) (not (edgeInRange (m .objects) (v .a) (v .b) (v .c))) (ltb (edgeKey (v .a) (v .b) (v .c)) (m .«least_key»)))
+    (causes (leb mostEdges (m .row)) (not (edgeInRange (m .objects) (v .a) (v .b) (v .c)))
+    (ltb (edgeKey (v .a) (v .b) (v .c)) (m .«least_key»)))
 refusalBy formula m h v = first (causes (leb mostFormulas (m .row)) (not (formulaInRange (m .row) (v .a) (v .b) (v .c) h)) false)
 refusalBy demarcation m h v = first (causes (leb mostDemarcations (m .row)) false false)
-refusalBy hierarchy m h v = first (causes false (not (pairInRange (m .demarcations) (v .a) (v .b))) (ltb (pairKey (v .a) (v .b)) (m .«least_key»)))
+refusalBy hierarchy m h v =
+    first (causes false (not (pairInRange (m .demarcations) (v .a) (v .b))) (ltb (pairKey (v .a) (v .b)) (m .«least_key»)))
 refusalBy principal m h v =
     first (causes (leb mostPrincipals (m .row)) (not (ltb (v .a) (m .formulas) && ltb (v .b) (m .demarcations))) false)
 refusalBy exclusion m h v =
@@ -85,7 +93,7 @@ HeightsLow kind heights = kind ≡ code formula → (g : ℕ) → at heights g <
 abbrev pub mostLineSum : ℕ
 mostLineSum = 258 * 255
 
--- a bundle has no more lines, before its end line, than were read
+-- a cursor within a bundle's lines before its end line
 pub record CursorBound (c : Cursor) : Type 0 where
   pub few : c .lines ≤ mostLines
   pub sum : c .sum ≤ mostLineSum * mostLines
@@ -93,7 +101,7 @@ pub record CursorBound (c : Cursor) : Type 0 where
 abbrev pub movedPast : Cursor → ℕ → ℕ → ℕ → Cursor
 movedPast c kind next sum = record { number = 0; offset = next; lines = c .lines + 1; last = kind; sum = c .sum + sum }
 
--- what the answers of `judged_line` say, for a reader of lines of a kind and size, held to the bounds m and the heights of the formulas before
+-- what the answers of `judged_line` say, of a line of a kind and size that is held to the bounds m and the heights of formulas before it
 module _ (text : List ℕ) (c : Cursor) (kind size : ℕ) (m : Bounds) (heights : ℕ → ℕ) where
   -- refused: as a line, or by its numbers
   pub data Refuses (n : ℕ) : Type 0 where

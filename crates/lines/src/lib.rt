@@ -1,4 +1,4 @@
-// One line of a bundle, for a reader of the lines of one kind: what stands at an offset, its numbers, what refuses them, and the cursor past it.
+// One line of a bundle, for a reader of lines of one kind: what stands at an offset, its numbers, what refuses them, the cursor past it.
 
 ghost use mathlib.Core.Path.{_≡_};
 ghost use Prim.Native.Nat.{_+_, _*_, _≤_};
@@ -7,7 +7,8 @@ ghost use Rattle.common.specs.Lists.{at};
 ghost use Rattle.policy.specs.Table.{kindOf};
 ghost use Rattle.policy.specs.Rows.{key};
 ghost use Rattle.lines.specs.NextLine.{nextOf, numberAt};
-ghost use Rattle.lines.specs.Judging.{wideAt, rowAt, fieldsOf, heightBy, refusalBy, mostLineSum, movedPast, Judges, TableKind, HeightsLow, CursorBound};
+ghost use Rattle.lines.specs.Judging.{TableKind, wideAt, rowAt, fieldsOf, heightBy, refusalBy, HeightsLow};
+ghost use Rattle.lines.specs.Judging.{mostLineSum, CursorBound, movedPast, Judges};
 use octets::Line;
 
 // ---- what stands at an offset
@@ -64,7 +65,7 @@ pub fn number_at(text: &[u8], offset: usize, k: usize, n: usize) -> u64
 // ---- a line's numbers
 
 // The numbers that a line's body may hold: its first three octets, the second and third as one number (a user's roles),
-// and its number of eight octets where the kind has one.
+// and its number of eight octets. What the kind has no use for is whatever costs least.
 pub struct Row {
     pub a: u8,
     pub b: u8,
@@ -80,7 +81,7 @@ fn two_octets(high: u8, low: u8) -> u16
     (high as u16) * 256 + (low as u16)
 }
 
-// The number of eight octets of a line of a kind; 0 where the kind has none.
+// The number of eight octets of a line of a kind from 05 on; 0 where the kind has none.
 fn wide_at(text: &[u8], offset: usize, kind: u8) -> u64
     ensures { λ r. ⌜ r ≡ wideAt kind (drop offset (now (text .entry))) ⌝ }
 {
@@ -93,20 +94,29 @@ fn wide_at(text: &[u8], offset: usize, kind: u8) -> u64
     0
 }
 
-// The numbers of the line of a kind at an offset.
+// The numbers of the line of a kind at an offset. The third octet is read only where the kind has one: octets are most of loading's work.
 fn row_at(text: &[u8], offset: usize, kind: u8) -> Row
     ensures { λ r. ⌜ r ≡ rowAt kind (drop offset (now (text .entry))) ⌝ }
 {
     let a = octets::octet_at(text, offset, 2);
     let b = octets::octet_at(text, offset, 3);
-    let c = octets::octet_at(text, offset, 4);
-    let roles = two_octets(b, c);
+    if kind <= 0x04 {
+        let c = octets::octet_at(text, offset, 4);
+        let roles = two_octets(b, c);
+        return Row {
+            a: a,
+            b: b,
+            c: c,
+            roles: roles,
+            wide: 0,
+        };
+    }
     let wide = wide_at(text, offset, kind);
     Row {
         a: a,
         b: b,
-        c: c,
-        roles: roles,
+        c: 0,
+        roles: 0,
         wide: wide,
     }
 }
@@ -125,12 +135,12 @@ pub struct Bounds {
 }
 
 // The height of the formula that a line says, from the heights of those before it; 0 for any other kind.
-fn height_of(kind: u8, row: Row, heights: [u8; 64]) -> u8
-    requires { ⌜ HeightsLow kind heights ⌝ }
-    ensures { λ r. ⌜ r ≡ heightBy kind row (at heights) ⌝ }
+fn height_of(kind: u8, row: Row, heights: &[u8; 64]) -> u8
+    requires { ⌜ HeightsLow kind (now heights) ⌝ }
+    ensures { λ r. ⌜ r ≡ heightBy kind row (at (now (heights .entry))) ⌝ }
 {
     if kind == 0x04 {
-        return rows::formula_height(row.a, row.b, row.c, heights);
+        return rows::formula_height(row.a, row.b, row.c, *heights);
     }
     0
 }
@@ -220,10 +230,10 @@ pub fn judged_line(
     kind: u8,
     size: usize,
     bounds: Bounds,
-    heights: [u8; 64],
+    heights: &[u8; 64],
 ) -> Judged
-    requires { ⌜ TableKind kind × CursorBound cursor × HeightsLow kind heights ⌝ }
-    ensures { λ r. ⌜ Judges (now (text .entry)) cursor kind size bounds (at heights) r ⌝ }
+    requires { ⌜ TableKind kind × CursorBound cursor × HeightsLow kind (now heights) ⌝ }
+    ensures { λ r. ⌜ Judges (now (text .entry)) cursor kind size bounds (at (now (heights .entry))) r ⌝ }
 {
     let offset = cursor.offset;
     match next_line(text, offset, kind, size) {

@@ -24,7 +24,7 @@ use Rattle.lines.specs.NextLine.{nextOf, numberAt}
 use Rattle.lines.proofs.FoundLine.{FoundLine, kind-octet, refused-line, other-line}
 use Rattle.reading.specs.declared.Stage.{Stage}
 use Rattle.reading.specs.Body.{numbers}
-use Rattle.reading.specs.Loading.{Reading, misplaced, endWrong, lineRefusal, afterLine, notLoaded, atEnd, read, load}
+use Rattle.reading.specs.Loading.{Reading, misplaced, endWrong, lineRefusal, afterLine, notLoaded, afterLastLine, read, load}
 use Rattle.reading.specs.Stages.{reading, loadedFrom, afterEnd, endedAt, Ready}
 use Rattle.reading.proofs.OneLine.{misplaced-other, misplaced-after, well-placed, refused-place, read-not, read-on, body-length, refused-reading}
 use Rattle.reading.proofs.Bodies.{numbers-are}
@@ -33,7 +33,7 @@ use Rattle.reading.proofs.Partway.{from-on}
 -- ---- an empty text
 
 pub load-empty : (text : List ℕ) → length text ≡ 0 → notLoaded wrongEnd 1 ≡ load text
-unfolding load read atEnd lines
+unfolding load read afterLastLine lines
 load-empty [] e = refl
 load-empty (b ∷ text) e = absurd (omega arith)
 
@@ -41,7 +41,7 @@ load-empty (b ∷ text) e = absurd (omega arith)
 
 -- what follows an end line
 pub read-ended : (t : Reading) (ls : List Framed) → t .last ≡ 0xFF → read t ls ≡ afterEnd (t .lines) (t .rules) ls
-unfolding read atEnd
+unfolding read afterLastLine
 read-ended t [] e = rw (eq-eqb (t .last) 0xFF e)
 read-ended t (refused n ∷ ls) e = refl
 read-ended t (octets os ∷ ls) e =
@@ -49,12 +49,16 @@ read-ended t (octets os ∷ ls) e =
     let r = refused-place t k os (misplaced-after t k os e) in
     (λ i. cond (eqb (r i) 0) (read (afterLine t k os) ls) (notLoaded (r i) (t .lines + 1)))
 
+-- what is left of the text at a stage
+abbrev rest : List ℕ → Stage → List ℕ
+rest text s = drop (s .cursor .offset) text
+
 pub finish-refused : (text : List ℕ) (s : Stage) → s .cursor .number ≢ 0 → notLoaded (s .cursor .number) (s .cursor .lines) ≡ loadedFrom text s
 unfolding loadedFrom
 finish-refused text s h = rw (ne-eqb (s .cursor .number) 0 h)
 
 module _ (text : List ℕ) (s : Stage) (z : s .cursor .number ≡ 0) (r : Ready text end s) where
-  on : loadedFrom text s ≡ read (reading s) (lines (drop (s .cursor .offset) text))
+  on : loadedFrom text s ≡ read (reading s) (lines (rest text s))
   on = from-on text s z
 
   not-ended : s .cursor .last ≢ 0xFF
@@ -62,9 +66,10 @@ module _ (text : List ℕ) (s : Stage) (z : s .cursor .number ≡ 0) (r : Ready 
 
   -- there is no end line
   pub finish-missing : length text ≤ s .cursor .offset → notLoaded wrongEnd (s .cursor .lines + 1) ≡ loadedFrom text s
-  unfolding read atEnd
+  unfolding read afterLastLine
   finish-missing l =
-      sym (on ∙ ap (λ (u : List ℕ). read (reading s) (lines u)) (drop-of-length-le text l) ∙ ap (read (reading s)) lines-none
+      sym
+      (on ∙ ap (λ (u : List ℕ). read (reading s) (lines u)) (drop-of-length-le text l) ∙ ap (read (reading s)) lines-none
       ∙ rw (ne-eqb (s .cursor .last) 0xFF not-ended))
 
   -- a line of another kind
@@ -74,7 +79,7 @@ module _ (text : List ℕ) (s : Stage) (z : s .cursor .number ≡ 0) (r : Ready 
       let k = kindOf (kindOctet os) in
       sym (on ∙ read-not (reading s) text (s .cursor .offset) l f k refl (refused-place (reading s) k os (wrong os f h (ℕ-discrete (kindOctet os) (code k)))) (λ q. omega arith))
     where
-      wrong : (os : List ℕ) → frame (drop (s .cursor .offset) text) ≡ octets os → kindOctet os ≢ 0xFF → Dec (kindOctet os ≡ code (kindOf (kindOctet os))) → misplaced (reading s) (kindOf (kindOctet os)) os ≡ true
+      wrong : (os : List ℕ) → frame (rest text s) ≡ octets os → kindOctet os ≢ 0xFF → Dec (kindOctet os ≡ code (kindOf (kindOctet os))) → misplaced (reading s) (kindOf (kindOctet os)) os ≡ true
       wrong os f h (yes q) = r .others os f (let c = kind-octet _ f in omega arith)
       wrong os f h (no q) = misplaced-other (reading s) (kindOf (kindOctet os)) os q
 
@@ -93,31 +98,31 @@ module _ (text : List ℕ) (s : Stage) (z : s .cursor .number ≡ 0) (r : Ready 
         let l = r .last in
         well-placed (reading s) end (f .os) (f .ours) not-ended refl (r .begun .some) (omega arith) (omega arith)
 
-    numbers-end : numbers end (f .os) ≡ numberAt (drop (s .cursor .offset) text) 2 2 ∷ numberAt (drop (s .cursor .offset) text) 4 4 ∷ []
-    numbers-end = numbers-are (drop (s .cursor .offset) text) (f .os) 6 (f .framed) (f .sized) end refl
+    numbers-end : numbers end (f .os) ≡ numberAt (rest text s) 2 2 ∷ numberAt (rest text s) 4 4 ∷ []
+    numbers-end = numbers-are (rest text s) (f .os) 6 (f .framed) (f .sized) end refl
 
     end-refusal : lineRefusal (reading s) end (f .os)
-        ≡ cond (not (eqb (numberAt (drop (s .cursor .offset) text) 2 2) (s .cursor .lines) && eqb (numberAt (drop (s .cursor .offset) text) 4 4) (s .cursor .sum))) wrongEnd 0
+        ≡ cond (not (eqb (numberAt (rest text s) 2 2) (s .cursor .lines) && eqb (numberAt (rest text s) 4 4) (s .cursor .sum))) wrongEnd 0
     unfolding lineRefusal endWrong rowCauses inRange
     end-refusal = rw placed (λ i. cond (not (eqb (at (numbers-end i) 0) (s .cursor .lines) && eqb (at (numbers-end i) 1) (s .cursor .sum))) wrongEnd 0)
 
-    pub finish-count : {n : ℕ} → n ≡ numberAt (drop (s .cursor .offset) text) 2 2 → n ≢ s .cursor .lines → notLoaded wrongEnd (s .cursor .lines + 1) ≡ loadedFrom text s
+    pub finish-count : {n : ℕ} → n ≡ numberAt (rest text s) 2 2 → n ≢ s .cursor .lines → notLoaded wrongEnd (s .cursor .lines + 1) ≡ loadedFrom text s
     finish-count {n} e h =
         sym (on ∙ read-not (reading s) text (s .cursor .offset) (f .within) (f .framed) end known
-        (end-refusal ∙ rw (ne-eqb (numberAt (drop (s .cursor .offset) text) 2 2) (s .cursor .lines) (λ q. h (e ∙ q)))) (λ q. omega arith))
+        (end-refusal ∙ rw (ne-eqb (numberAt (rest text s) 2 2) (s .cursor .lines) (λ q. h (e ∙ q)))) (λ q. omega arith))
 
-    pub finish-sum : {n : ℕ} → n ≡ numberAt (drop (s .cursor .offset) text) 4 4 → n ≢ s .cursor .sum → notLoaded wrongEnd (s .cursor .lines + 1) ≡ loadedFrom text s
+    pub finish-sum : {n : ℕ} → n ≡ numberAt (rest text s) 4 4 → n ≢ s .cursor .sum → notLoaded wrongEnd (s .cursor .lines + 1) ≡ loadedFrom text s
     finish-sum {n} e h =
         sym (on ∙ read-not (reading s) text (s .cursor .offset) (f .within) (f .framed) end known
-        (end-refusal ∙ rw (ne-eqb (numberAt (drop (s .cursor .offset) text) 4 4) (s .cursor .sum) (λ q. h (e ∙ q)), and-false (eqb (numberAt (drop (s .cursor .offset) text) 2 2) (s .cursor .lines)))) (λ q. omega arith))
+        (end-refusal ∙ rw (ne-eqb (numberAt (rest text s) 4 4) (s .cursor .sum) (λ q. h (e ∙ q)), and-false (eqb (numberAt (rest text s) 2 2) (s .cursor .lines)))) (λ q. omega arith))
 
-    pub finish-ended : {n m : ℕ} → n ≡ numberAt (drop (s .cursor .offset) text) 2 2 → n ≡ s .cursor .lines → m ≡ numberAt (drop (s .cursor .offset) text) 4 4 → m ≡ s .cursor .sum
+    pub finish-ended : {n m : ℕ} → n ≡ numberAt (rest text s) 2 2 → n ≡ s .cursor .lines → m ≡ numberAt (rest text s) 4 4 → m ≡ s .cursor .sum
         → endedAt text next (s .cursor .lines + 1) (s .rules) ≡ loadedFrom text s
     unfolding endedAt afterLine appended
     finish-ended e e′ g g′ =
         sym (on
         ∙ read-on (reading s) text (s .cursor .offset) (f .within) (f .framed) end known
-        (end-refusal ∙ rw (eq-eqb (numberAt (drop (s .cursor .offset) text) 2 2) (s .cursor .lines) (sym e ∙ e′), eq-eqb (numberAt (drop (s .cursor .offset) text) 4 4) (s .cursor .sum) (sym g ∙ g′)))
+        (end-refusal ∙ rw (eq-eqb (numberAt (rest text s) 2 2) (s .cursor .lines) (sym e ∙ e′), eq-eqb (numberAt (rest text s) 4 4) (s .cursor .sum) (sym g ∙ g′)))
         ∙ read-ended (afterLine (reading s) end (f .os)) _ refl
         ∙ ap (λ (n : ℕ). afterEnd (s .cursor .lines + 1) (s .rules) (lines (drop n text))) (sym (f .follows)))
 

@@ -5,7 +5,8 @@ use mathlib.Core.Bool.{cond}
 use mathlib.Core.List.{List, [], _∷_}
 use native.Mathlib.Omega.{arith}
 use Rattle.common.specs.Limits.{mostLines}
-use Rattle.policy.specs.Table.{Kind, head, user, edge, formula, demarcation, hierarchy, principal, exclusion, prerequisite, method, end, code, kindOf, isKind, kinds, room}
+use Rattle.policy.specs.Table.{Kind, code, kindOf, isKind, kinds, room}
+use Rattle.policy.specs.Table.{head, user, edge, formula, demarcation, hierarchy, principal, exclusion, prerequisite, method, end}
 
 -- the rooms of the kinds of a list before k, added
 abbrev pub roomsBefore : Kind → List Kind → ℕ

@@ -11,7 +11,7 @@ use Rattle.policy.specs.Loadable.{tableLoads, loadable}
 use Rattle.policy.specs.LoadableLaws.{loadable-table}
 use Rattle.reading.specs.declared.Loaded.{Loaded}
 use Rattle.reading.specs.Loading.{load}
-use Rattle.reading.specs.LoadingLaws.{load-good}
+use Rattle.reading.specs.LoadingLaws.{as-loaded}
 use Rattle.formula.specs.Formula.{holds}
 use Rattle.justification.specs.Justification.{least}
 use Rattle.probe.specs.Probe.{formulaAnswer, probeFormula, setNumber, leastAnswer, probeLeast}
@@ -20,7 +20,7 @@ module _ (text : List ℕ) (l : Loaded) (e : l ≡ load text) where
   pub loaded-tables : l .number ≡ 0 → (k : Kind) → tableLoads (l .rules) k ≡ true
   loaded-tables z =
       loadable-table (l .rules)
-      (subst (λ (x : Loaded). loadable (x .rules) ≡ true) (sym e) (load-good text (ap (λ (x : Loaded). x .number) (sym e) ∙ z) .loads))
+      (subst (λ (x : Loaded). loadable (x .rules) ≡ true) (sym e) (as-loaded text (ap (λ (x : Loaded). x .number) (sym e) ∙ z) .loads))
 
   module _ (f o s : ℕ) where
     formula-same : formulaAnswer l f o s ≡ probeFormula text f o s

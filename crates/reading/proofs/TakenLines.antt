@@ -80,7 +80,7 @@ row-refused end p r i h v e q = absurd (let l = p .high in omega arith)
 -- ---- for any kind
 
 has-table : {kind size : ℕ} → ReadableKind kind size → HasTable (kindOf kind)
-has-table w = let e = w .table .known in let l = w .table .low in let h = w .table .high in record { low = omega arith; high = omega arith }
+has-table w = let e = w .octet .known in let l = w .octet .low in let h = w .octet .high in record { low = omega arith; high = omega arith }
 
 -- n lines of the kind have been taken, with the least key that may follow and, of formulas, their heights
 pub record TakenLines (text : List ℕ) (kind : ℕ) (start : Stage) (c : Cursor) (r : Record) (n least : ℕ) (heights : List ℕ) : Type 0 where
@@ -97,12 +97,12 @@ taken-start text {kind} w s z r =
       partway = partway-start text (kindOf kind) s z r;
       counted = sym e;
       lowest = ap (λ (n : ℕ). minimumKey (kindOf kind) n (s .rules)) (sym e);
-      high = λ q. heights-start (s .rules) (r .empty formula (let k = w .table .known in omega arith));
+      high = λ q. heights-start (s .rules) (r .empty formula (let k = w .octet .known in omega arith));
     }
 
 module _ {text : List ℕ} {kind size : ℕ} {start : Stage} {c : Cursor} {r : Record} {n least : ℕ} {heights : List ℕ} (w : ReadableKind kind size) (g : TakenLines text kind start c r n least heights) where
   as-kind : nextOf text (c .offset) (code (kindOf kind)) size ≡ nextOf text (c .offset) kind size
-  as-kind = ap (λ (o : ℕ). nextOf text (c .offset) o size) (w .table .known)
+  as-kind = ap (λ (o : ℕ). nextOf text (c .offset) o size) (w .octet .known)
 
   pub taken-bound : CursorBound c
   taken-bound = cursor-bound text (kindOf kind) (g .partway)
@@ -125,7 +125,7 @@ module _ {text : List ℕ} {kind size : ℕ} {start : Stage} {c : Cursor} {r : R
       fields =
           numbers-are (drop (c .offset) text) (found .os) (total (widths (kindOf kind))) (found .framed) (found .sized ∙ w .sized) (kindOf kind) refl
           ∙ row-numbers (kindOf kind) (has-table w) (drop (c .offset) text)
-          ∙ ap (fieldsOf (kindOf kind)) (ap (λ (o : ℕ). rowAt o (drop (c .offset) text)) (w .table .known) ∙ sym q)
+          ∙ ap (fieldsOf (kindOf kind)) (ap (λ (o : ℕ). rowAt o (drop (c .offset) text)) (w .octet .known) ∙ sym q)
 
       module _ {h : ℕ} (u : h ≡ heightBy kind v (at heights)) where
         refusal : refusalBy (kindOf kind) (boundsOf r n least) h v ≡ rowRefusal (kindOf kind) (count (kindOf kind) r) r (numbers (kindOf kind) (found .os))
@@ -136,7 +136,7 @@ module _ {text : List ℕ} {kind size : ℕ} {start : Stage} {c : Cursor} {r : R
           where
             tall : code (kindOf kind) ≡ code formula → h ≡ heightOf (opOf (v .a)) (v .b) (v .c) (height r (count (kindOf kind) r))
             tall z =
-                let f : kind ≡ code formula = sym (w .table .known) ∙ z in
+                let f : kind ≡ code formula = sym (w .octet .known) ∙ z in
                 height-here (g .high f) (v .a) (v .b) (v .c) (u ∙ rw (eq-eqb kind 4 f))
                 ∙ ap (λ (k : Kind). heightOf (opOf (v .a)) (v .b) (v .c) (height r (count k r))) (sym (ap kindOf f))
 
@@ -175,7 +175,7 @@ module _ {text : List ℕ} {kind size : ℕ} {start : Stage} {c : Cursor} {r : R
         ∙ sym y in
         record {
           partway =
-              subst₂ (Partway text (kindOf kind) start) (ap (λ (o : ℕ). movedPast c o (t .following) (t .sum)) (w .table .known) ∙ sym (t .moved)) (ap (appended (kindOf kind) r) (fields (t .found) (t .row)) ∙ grown)
+              subst₂ (Partway text (kindOf kind) start) (ap (λ (o : ℕ). movedPast c o (t .following) (t .sum)) (w .octet .known) ∙ sym (t .moved)) (ap (appended (kindOf kind) r) (fields (t .found) (t .row)) ∙ grown)
               (partway-more text (kindOf kind) (has-table w) start c r (g .partway) (w .sized) (found (t .found)) (sym passes));
           counted = ap (λ (m : ℕ). m + 1) (g .counted) ∙ sym (count-same (kindOf kind) r (fieldsOf (kindOf kind) v) low high) ∙ ap (count (kindOf kind)) grown;
           lowest =

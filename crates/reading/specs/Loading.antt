@@ -26,7 +26,8 @@ pub record Reading : Type 0 where
 abbrev pub atTop : Reading
 atTop = record { lines = 0; last = 0; sum = 0; rules = blank }
 
--- a line of kind k: its kind octet is no kind's; it stands after the end; it is a head elsewhere than first, or another kind first; its kind falls; its body has another length
+-- a line of kind k: its kind octet is no kind's; it stands after the end; it is a head elsewhere than first, or another kind first;
+-- its kind falls; its body has another length
 unfoldable pub misplaced : Reading → Kind → List ℕ → Bool
 misplaced t k os =
     not (eqb (kindOctet os) (code k))
@@ -57,14 +58,14 @@ abbrev pub notLoaded : ℕ → ℕ → Loaded
 notLoaded n line = record { number = n; line = line; rules = blank }
 
 -- all lines passed. 8: the end line is missing (line: one past the last). 9: a circle, in the hierarchy or the prerequisites
-unfoldable pub atEnd : Reading → Loaded
-atEnd t =
+unfoldable pub afterLastLine : Reading → Loaded
+afterLastLine t =
     cond (not (eqb (t .last) 0xFF)) (notLoaded wrongEnd (t .lines + 1))
     (cond (circular (rows hierarchy (t .rules)) || circular (rows prerequisite (t .rules))) (notLoaded refusals.circle (t .lines))
     (record { number = 0; line = 0; rules = t .rules }))
 
 unfoldable pub read : Reading → List Framed → Loaded
-read t [] = atEnd t
+read t [] = afterLastLine t
 read t (refused n ∷ ls) = notLoaded n (t .lines + 1)
 read t (octets os ∷ ls) =
     cond (eqb (lineRefusal t (kindOf (kindOctet os)) os) 0)

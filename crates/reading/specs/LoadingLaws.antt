@@ -15,14 +15,16 @@ use Rattle.common.specs.Refusals as refusals
 use Rattle.octets.specs.Line.{Framed, refused, octets, kindOctet, bodyOf, total, lines}
 use Rattle.closure.specs.Closure.{circular}
 use Rattle.policy.specs.declared.Record.{Record}
-use Rattle.policy.specs.Table.{Kind, head, user, edge, formula, demarcation, hierarchy, principal, exclusion, prerequisite, method, end, code, kindOf, isKind, count, rows, emptied, blank, appended}
+use Rattle.policy.specs.Table.{Kind, code, kindOf, isKind, count, rows, emptied, blank, appended}
+use Rattle.policy.specs.Table.{head, user, edge, formula, demarcation, hierarchy, principal, exclusion, prerequisite, method, end}
 use Rattle.policy.specs.Rows.{rowCauses, rowRefusal}
 use Rattle.policy.specs.Loadable.{tableLoads, loadable}
 use Rattle.policy.specs.LoadableLaws.{loadable-from}
 use Rattle.policy.specs.TableLaws.{Sized, blank-loads, sized-blank, sized-appended, count-other}
 use Rattle.policy.specs.GrowthLaws.{tables-more, tables-first, blank-empty}
+use Rattle.reading.specs.declared.Loaded.{Loaded}
 use Rattle.reading.specs.Body.{widths, numbers}
-use Rattle.reading.specs.Loading.{Reading, atTop, misplaced, endWrong, lineRefusal, afterLine, notLoaded, atEnd, read, load}
+use Rattle.reading.specs.Loading.{Reading, atTop, misplaced, endWrong, lineRefusal, afterLine, notLoaded, afterLastLine, read, load}
 
 -- ---- a line that is taken
 
@@ -54,8 +56,10 @@ one-both false false e = refl
 pub taken : (t : Reading) (k : Kind) (os : List ℕ) → lineRefusal t k os ≡ 0 → Taken t k os
 unfolding lineRefusal misplaced rowRefusal
 taken t k os e =
-    let (m, q) = none-first wrongKind (misplaced t k os) (rowCauses k (count k (t .rules)) (t .rules) (numbers k os) ++ (cause wrongEnd (endWrong t k (numbers k os)) ∷ [])) (λ z. omega arith) e in
-    let p = none-before (rowCauses k (count k (t .rules)) (t .rules) (numbers k os)) (cause wrongEnd (endWrong t k (numbers k os))) q in
+    let row = rowCauses k (count k (t .rules)) (t .rules) (numbers k os) in
+    let last = cause wrongEnd (endWrong t k (numbers k os)) in
+    let (m, q) = none-first wrongKind (misplaced t k os) (row ++ (last ∷ [])) (λ z. omega arith) e in
+    let p = none-before row last q in
     let (a, m₁) = or-none (not (eqb (kindOctet os) (code k))) _ m in
     let (b, m₂) = or-none (eqb (t .last) 0xFF) _ m₁ in
     let (c, m₃) = or-none (not (eqb (cond (isKind k head) 1 0) (cond (eqb (t .lines) 0) 1 0))) _ m₂ in
@@ -112,6 +116,10 @@ sort prerequisite = between (omega arith) (omega arith)
 sort method = between (omega arith) (omega arith)
 sort end = is-end refl
 
+-- every table loads once the line is in
+abbrev AllLoad : Kind → Record → List ℕ → Type 0
+AllLoad k r os = (j : Kind) → tableLoads (appended k r (numbers k os)) j ≡ true
+
 pub sound-more : (t : Reading) (k : Kind) (os : List ℕ) → Taken t k os → Sound t → Sound (afterLine t k os)
 unfolding afterLine
 sound-more t k os w s =
@@ -120,71 +128,78 @@ sound-more t k os w s =
       memo = memo-kept k (t .rules) (numbers k os) ∙ s .memo;
       top = λ z. absurd (omega arith);
       loads = λ h. all (sort k);
-      empty = λ j l h. count-other k j (t .rules) (numbers k os) (ne-eqb (code k) (code j) (λ z. omega arith)) ∙ s .empty j l (let m = w .rises in omega arith);
+      empty = λ j l h.
+          count-other k j (t .rules) (numbers k os) (ne-eqb (code k) (code j) (λ z. omega arith))
+          ∙ s .empty j l (let m = w .rises in omega arith);
     }
   where
     not-top : 1 < code k → t .lines ≢ 0
     not-top l z = false≢true (sym (ne-eqb (code k) 1 (λ q. omega arith)) ∙ w .head-first z)
 
-    all : Sort k → (j : Kind) → tableLoads (appended k (t .rules) (numbers k os)) j ≡ true
+    all : Sort k → AllLoad k (t .rules) os
     all (between low high) =
-        tables-more k (t .rules) (numbers k os) low high (s .sized) (s .loads (not-top low)) (λ j l. s .empty j (omega arith) (let m = w .rises in omega arith)) (w .passes)
-    all (is-end e) = subst (λ (i : Kind). (j : Kind) → tableLoads (appended i (t .rules) (numbers i os)) j ≡ true) e (λ j. ap (λ (r : Record). tableLoads r j) (end-kept (t .rules) (numbers end os)) ∙ s .loads not-first j)
+        tables-more k (t .rules) (numbers k os) low high (s .sized) (s .loads (not-top low))
+        (λ j l. s .empty j (omega arith) (let m = w .rises in omega arith)) (w .passes)
+    all (is-end e) =
+        subst (λ (i : Kind). AllLoad i (t .rules) os) e
+        (λ j. ap (λ (r : Record). tableLoads r j) (end-kept (t .rules) (numbers end os)) ∙ s .loads not-first j)
       where
         not-first : t .lines ≢ 0
         not-first z = false≢true (ap (λ (i : Kind). isKind i head) e ∙ w .head-first z)
     all (is-head e) =
         let z : t .lines ≡ 0 = w .first-head (ap (λ (i : Kind). isKind i head) (sym e)) in
         let b : t .rules ≡ blank = ap (λ (u : Reading). u .rules) (s .top z) in
-        subst (λ (i : Kind). rowRefusal i (count i (t .rules)) (t .rules) (numbers i os) ≡ 0 → (j : Kind) → tableLoads (appended i (t .rules) (numbers i os)) j ≡ true) e
-        (subst (λ (r : Record). rowRefusal head 1 r (numbers head os) ≡ 0 → (j : Kind) → tableLoads (appended head r (numbers head os)) j ≡ true) (sym b) (tables-first (numbers head os)))
+        subst (λ (i : Kind). rowRefusal i (count i (t .rules)) (t .rules) (numbers i os) ≡ 0 → AllLoad i (t .rules) os) e
+        (subst (λ (r : Record). rowRefusal head 1 r (numbers head os) ≡ 0 → AllLoad head r os) (sym b) (tables-first (numbers head os)))
         (w .passes)
 
 -- what a text that loads gives
-pub record Good (r : Record) : Type 0 where
+pub record AsLoaded (r : Record) : Type 0 where
   pub loads : loadable r ≡ true
   pub memo : r .memo ≡ emptied 0 0
   pub sized : Sized r
 
-end-good : (t : Reading) → Sound t → atEnd t .number ≡ 0 → Good (atEnd t .rules)
-unfolding atEnd
-end-good t s e = go (eqb (t .last) 0xFF) (circular (rows hierarchy (t .rules))) (circular (rows prerequisite (t .rules))) refl refl refl e
+-- of the answer of loading
+abbrev Gives : Loaded → Type 0
+Gives a = a .number ≡ 0 → AsLoaded (a .rules)
+
+end-loaded : (t : Reading) → Sound t → Gives (afterLastLine t)
+unfolding afterLastLine
+end-loaded t s = go (eqb (t .last) 0xFF) (circular (rows hierarchy (t .rules))) (circular (rows prerequisite (t .rules))) refl refl refl
   where
+    not-top : t .last ≡ 0xFF → t .lines ≢ 0
+    not-top p o = let l : _≡_ {A = ℕ} 0 0xFF = ap (λ (x : Reading). x .last) (sym (s .top o)) ∙ p in omega arith
+
     go : (x y z : Bool) → eqb (t .last) 0xFF ≡ x → circular (rows hierarchy (t .rules)) ≡ y → circular (rows prerequisite (t .rules)) ≡ z
-        → cond (not x) (notLoaded wrongEnd (t .lines + 1)) (cond (y || z) (notLoaded refusals.circle (t .lines)) (record { number = 0; line = 0; rules = t .rules })) .number ≡ 0
-        → Good (cond (not x) (notLoaded wrongEnd (t .lines + 1)) (cond (y || z) (notLoaded refusals.circle (t .lines)) (record { number = 0; line = 0; rules = t .rules })) .rules)
+        → Gives
+        (cond (not x) (notLoaded wrongEnd (t .lines + 1))
+        (cond (y || z) (notLoaded refusals.circle (t .lines)) (record { number = 0; line = 0; rules = t .rules })))
     go false y z p q u n = absurd (omega arith)
     go true true z p q u n = absurd (omega arith)
     go true false true p q u n = absurd (omega arith)
     go true false false p q u n =
-        record {
-          loads = loadable-from (t .rules) (s .loads (λ o. let l : 0 ≡ 0xFF = ap (λ (x : Reading). x .last) (sym (s .top o)) ∙ eqb-true _ _ p in omega arith)) (rw (q, u));
-          memo = s .memo;
-          sized = s .sized;
-        }
+        record { loads = loadable-from (t .rules) (s .loads (not-top (eqb-true _ _ p))) (rw (q, u)); memo = s .memo; sized = s .sized }
 
 -- the blank record, which a refusal hands back, is one of them
-good-blank : Good blank
+blank-loaded : AsLoaded blank
 unfolding blank circular
-good-blank = record { loads = loadable-from blank blank-loads refl; memo = refl; sized = sized-blank }
+blank-loaded = record { loads = loadable-from blank blank-loads refl; memo = refl; sized = sized-blank }
 
-read-good : (ls : List Framed) (t : Reading) → Sound t → read t ls .number ≡ 0 → Good (read t ls .rules)
+read-loaded : (ls : List Framed) (t : Reading) → Sound t → Gives (read t ls)
 unfolding read
-read-good [] t s e = end-good t s e
-read-good (refused n ∷ ls) t s e = good-blank
-read-good (octets os ∷ ls) t s e = go (eqb (lineRefusal t k os) 0) refl (read-good ls (afterLine t k os)) e
+read-loaded [] t s e = end-loaded t s e
+read-loaded (refused n ∷ ls) t s e = blank-loaded
+read-loaded (octets os ∷ ls) t s e = go (eqb (lineRefusal t k os) 0) refl (read-loaded ls (afterLine t k os)) e
   where
     k : Kind
     k = kindOf (kindOctet os)
 
-    go : (x : Bool) → eqb (lineRefusal t (kindOf (kindOctet os)) os) 0 ≡ x
-        → (Sound (afterLine t (kindOf (kindOctet os)) os) → read (afterLine t (kindOf (kindOctet os)) os) ls .number ≡ 0 → Good (read (afterLine t (kindOf (kindOctet os)) os) ls .rules))
-        → cond x (read (afterLine t (kindOf (kindOctet os)) os) ls) (notLoaded (lineRefusal t (kindOf (kindOctet os)) os) (t .lines + 1)) .number ≡ 0
-        → Good (cond x (read (afterLine t (kindOf (kindOctet os)) os) ls) (notLoaded (lineRefusal t (kindOf (kindOctet os)) os) (t .lines + 1)) .rules)
-    go true p ih n = ih (sound-more t (kindOf (kindOctet os)) os (taken t (kindOf (kindOctet os)) os (eqb-true _ _ p)) s) n
-    go false p ih n = good-blank
+    go : (x : Bool) → eqb (lineRefusal t k os) 0 ≡ x → (Sound (afterLine t k os) → Gives (read (afterLine t k os) ls))
+        → Gives (cond x (read (afterLine t k os) ls) (notLoaded (lineRefusal t k os) (t .lines + 1)))
+    go true p ih n = ih (sound-more t k os (taken t k os (eqb-true _ _ p)) s) n
+    go false p ih n = blank-loaded
 
 -- THE LAW: what loads is loadable, with an empty memo of pair (0, 0)
-pub load-good : (text : List ℕ) → load text .number ≡ 0 → Good (load text .rules)
+pub as-loaded : (text : List ℕ) → load text .number ≡ 0 → AsLoaded (load text .rules)
 unfolding load
-load-good text e = read-good (lines text) atTop sound-top e
+as-loaded text = read-loaded (lines text) atTop sound-top

@@ -27,20 +27,24 @@ reading s = record { lines = s .cursor .lines; last = s .cursor .last; sum = s .
 -- what loading answers from a stage on: the last line was refused with the number, or the lines from the offset on are read
 unfoldable pub loadedFrom : List ℕ → Stage → Loaded
 loadedFrom text s =
-    cond (eqb (s .cursor .number) 0) (read (reading s) (lines (drop (s .cursor .offset) text))) (notLoaded (s .cursor .number) (s .cursor .lines))
+    cond (eqb (s .cursor .number) 0) (read (reading s) (lines (drop (s .cursor .offset) text)))
+    (notLoaded (s .cursor .number) (s .cursor .lines))
 
 -- the stage at which the line at the cursor is refused
 abbrev pub refusedAt : Cursor → ℕ → Record → Stage
-refusedAt c n r = record { cursor = record { number = n; offset = c .offset; lines = c .lines + 1; last = c .last; sum = c .sum }; rules = r }
+refusedAt c n r =
+    record { cursor = record { number = n; offset = c .offset; lines = c .lines + 1; last = c .last; sum = c .sum }; rules = r }
 
--- what loading answers after an end line, the last of n: a further line is refused; else circles are looked for
+-- what loading answers after an end line, the last of n lines: a further line is refused; else circles are looked for
 abbrev pub afterEnd : ℕ → Record → List Framed → Loaded
-afterEnd n r [] = cond (circular (rows hierarchy r) || circular (rows prerequisite r)) (notLoaded refusals.circle n) (record { number = 0; line = 0; rules = r })
+afterEnd n r [] =
+    cond (circular (rows hierarchy r) || circular (rows prerequisite r)) (notLoaded refusals.circle n)
+    (record { number = 0; line = 0; rules = r })
 afterEnd n r (refused k ∷ ls) = notLoaded k (n + 1)
 afterEnd n r (octets os ∷ ls) = notLoaded wrongKind (n + 1)
 
 unfoldable pub endedAt : List ℕ → ℕ → ℕ → Record → Loaded
-endedAt text place n r = afterEnd n r (lines (drop place text))
+endedAt text offset n r = afterEnd n r (lines (drop offset text))
 
 -- the tables that circles are looked for in load
 pub record CirclesReady (r : Record) : Type 0 where
@@ -69,7 +73,7 @@ pub record Starts (text : List ℕ) (s : Stage) : Type 0 where
 
 -- the octet of a kind that has a table, and the size of its lines
 pub record ReadableKind (kind size : ℕ) : Type 0 where
-  pub table : TableKind kind
+  pub octet : TableKind kind
   pub sized : size ≡ total (widths (kindOf kind)) + 3
 
 -- the reader of kind k takes a stage to one from which loading answers the same, and is done with its kind, unless a line is refused

@@ -95,7 +95,7 @@ pub fn read_kind(text: &[u8], kind: u8, size: usize, from: Stage) -> Stage
             demarcations: rules.demarcation_count,
             principals: rules.principal_count,
         };
-        match lines::judged_line(text, cursor, kind, size, bounds, heights) {
+        match lines::judged_line(text, cursor, kind, size, bounds, &heights) {
             Judged::Other => {
                 return Stage { cursor, rules };
             }

@@ -16,7 +16,7 @@ use Rattle.policy.specs.declared.Record.{Record}
 use Rattle.policy.specs.Table.{Kind, hierarchy, prerequisite, kindOf, rows}
 use Rattle.policy.specs.Loadable.{loadable}
 use Rattle.reading.specs.declared.Loaded.{Loaded}
-use Rattle.reading.specs.Loading.{Reading, atTop, lineRefusal, afterLine, notLoaded, atEnd, read, load}
+use Rattle.reading.specs.Loading.{Reading, atTop, lineRefusal, afterLine, notLoaded, afterLastLine, read, load}
 use Rattle.bundle.specs.declared.Written.{Written}
 use Rattle.bundle.specs.Writing.{bundleOf, lengthNeeded, written, writeRefusal, bufferAfter}
 use Rattle.bundle.specs.Parts.{Writes}
@@ -41,8 +41,8 @@ unfolding lines
 lines-count [] = omega arith
 lines-count (b ∷ t) = omega (arith, later-count b t)
 
-end-line : (t : Reading) → atEnd t .line ≤ t .lines + 1
-unfolding atEnd
+end-line : (t : Reading) → afterLastLine t .line ≤ t .lines + 1
+unfolding afterLastLine
 end-line t = go (eqb (t .last) 0xFF) (circular (rows hierarchy (t .rules)) || circular (rows prerequisite (t .rules)))
   where
     go : (x y : Bool) → cond (not x) (notLoaded 8 (t .lines + 1)) (cond y (notLoaded 9 (t .lines)) (record { number = 0; line = 0; rules = t .rules })) .line ≤ t .lines + 1

@@ -1,7 +1,9 @@
 -- `finish` meets its contract: each way out is a law of `Ends`.
+use Prim.Native.Nat.{_≤_}
 use mathlib.Core.Path.{sym, _∙_}
 use native.Mathlib.Omega.{arith}
 use borrow.Author.Needs.{needs}
+use Rattle.common.specs.Limits.{mostLines}
 use Rattle.reading.specs.Stages.{Ready}
 use Rattle.policy.specs.Table.{end}
 use Rattle.lines.proofs.FoundLine.{FoundLine, found-line}
@@ -12,13 +14,28 @@ use Rattle.loading.proofs.finish.Tie as tie
 not-loaded-requires : tie.Need-not-loaded-requires
 not-loaded-requires c κs = search needs
 
--- what the stage is ready for, past the test of its number
-ready : (e : tie.Else1) → let a = e .before .before .before .before .before .args in Ready (a .text .now) end (a .from)
-ready e = e .before .before .before .before .before .pre (e .if1 .left)
+-- the function's entry from past the test of the stage's number, that from the line that was read, that from an end line, and that
+-- from an end line whose numbers were read
+abbrev entry : tie.Else1 → tie.Start
+entry e = e .before .before .before .before .before
+
+abbrev tested : tie.After-next-line → tie.Else1
+tested l = l .before .before
+
+abbrev line : tie.After-next → tie.After-next-line
+line n = n .before .before
+
+abbrev ours : tie.After-number-at2 → tie.After-next
+ours m = m .before .before .before
+
+-- what the stage is ready for
+ready : (e : tie.Else1) → Ready (entry e .args .text .now) end (entry e .args .from)
+ready e = entry e .pre (e .if1 .left)
 
 -- the end line that was found
-found : (n : tie.After-next) → let a = n .before .before .before .before .before .before .before .before .before .args in FoundLine (a .text .now) (a .from .cursor .offset) 0xFF 9 (n .next .given .0 .0) (n .next .given .0 .1 .0)
-found n = found-line _ _ 0xFF 9 (sym (n .before .before .next-line .ensures) ∙ n .next .given .1)
+found : (n : tie.After-next) → let a = entry (tested (line n)) .args in
+    FoundLine (a .text .now) (a .from .cursor .offset) 0xFF 9 (n .next .given .0 .0) (n .next .given .0 .1 .0)
+found n = found-line _ _ 0xFF 9 (sym (line n .next-line .ensures) ∙ n .next .given .1)
 
 returns : tie.Need-returns
 returns c = c .not-loaded .ensures ∙ finish-refused _ _ (c .before .if1 .taken)
@@ -41,7 +58,7 @@ enum-told : tie.Need-enum-told
 enum-told c = search needs
 
 add-not-loaded-2 : tie.Need-add-not-loaded-2
-add-not-loaded-2 c = let b = ready (c .before .before .before .before .before) .begun .few in omega arith
+add-not-loaded-2 c = let b = ready (tested (c .before .before .before)) .begun .few in omega arith
 
 not-loaded-requires-3 : tie.Need-not-loaded-requires-3
 not-loaded-requires-3 c κs = search needs
@@ -50,7 +67,7 @@ enum-known-number : tie.Need-enum-known-number
 enum-known-number c = search needs
 
 add-not-loaded-3 : tie.Need-add-not-loaded-3
-add-not-loaded-3 c = let b = ready (c .before .before .before .before .before .before) .begun .few in omega arith
+add-not-loaded-3 c = let b = ready (tested (c .before .before .before .before)) .begun .few in omega arith
 
 not-loaded-requires-4 : tie.Need-not-loaded-requires-4
 not-loaded-requires-4 c κs = search needs
@@ -64,48 +81,67 @@ number-at-requires c κs = search needs
 number-at-requires-2 : tie.Need-number-at-requires-2
 number-at-requires-2 c κs = search needs
 
+-- ---- past the end line's numbers: so many lines were read, and their bound
+
+few : (m : tie.After-number-at2) → let s = entry (tested (line (ours m))) .args .from in s .cursor .lines ≤ mostLines
+few m = ready (tested (line (ours m))) .begun .few
+
 add-not-loaded-4 : tie.Need-add-not-loaded-4
-add-not-loaded-4 c = let b = ready (c .before .before .before .before .before .before .before .before .before) .begun .few in omega arith
+add-not-loaded-4 c = let b = few (c .before .before) in omega arith
 
 not-loaded-requires-5 : tie.Need-not-loaded-requires-5
 not-loaded-requires-5 c κs = search needs
 
 returns-3 : tie.Need-returns-3
 returns-3 c =
-    let e = c .before .before .before .before .before .before .before .before .before .before in
-    c .not-loaded5 .ensures ∙ finish-count _ _ (e .if1 .left) (ready e) (found (c .before .before .before .before .before .before)) (c .before .before .before .before .number-at .ensures) (c .before .before .if3 .taken)
+    let m = c .before .before .before in
+    let e = tested (line (ours m)) in
+    c .not-loaded5 .ensures
+    ∙ finish-count _ _ (e .if1 .left) (ready e) (found (ours m)) (m .before .number-at .ensures) (c .before .before .if3 .taken)
 
 add-not-loaded-5 : tie.Need-add-not-loaded-5
-add-not-loaded-5 c = let b = ready (c .before .before .before .before .before .before .before .before .before .before) .begun .few in omega arith
+add-not-loaded-5 c = let b = few (c .before .before .before) in omega arith
 
 not-loaded-requires-6 : tie.Need-not-loaded-requires-6
 not-loaded-requires-6 c κs = search needs
 
 returns-4 : tie.Need-returns-4
 returns-4 c =
-    let e = c .before .before .before .before .before .before .before .before .before .before .before in
-    c .not-loaded6 .ensures ∙ finish-sum _ _ (e .if1 .left) (ready e) (found (c .before .before .before .before .before .before .before)) (c .before .before .before .before .number-at2 .ensures) (c .before .before .if4 .taken)
+    let m = c .before .before .before .before in
+    let e = tested (line (ours m)) in
+    c .not-loaded6 .ensures ∙ finish-sum _ _ (e .if1 .left) (ready e) (found (ours m)) (m .number-at2 .ensures) (c .before .before .if4 .taken)
 
 add-ended : tie.Need-add-ended
-add-ended c = let b = ready (c .before .before .before .before .before .before .before .before .before .before) .begun .few in omega arith
+add-ended c = let b = few (c .before .before .before) in omega arith
 
 ended-requires : tie.Need-ended-requires
-ended-requires c κs = let b = ready (c .before .before .before .before .before .before .before .before .before .before) .begun in (let f = b .few in omega arith, record { loads = b .loads })
+ended-requires c κs =
+    let m = c .before .before .before in
+    (let b = few m in omega arith, record { loads = ready (tested (line (ours m))) .begun .loads })
 
 returns-5 : tie.Need-returns-5
 returns-5 c =
-    let e = c .before .before .before .before .before .before in
-    c .not-loaded3 .ensures ∙ finish-other _ _ (e .if1 .left) (ready e) (c .before .before .before .before .before .if2 .left) (sym (c .before .before .before .before .next-line .ensures) ∙ c .before .before .enum-told .given .1)
+    let o = c .before .before in
+    let l = o .before .before in
+    let e = tested l in
+    c .not-loaded3 .ensures
+    ∙ finish-other _ _ (e .if1 .left) (ready e) (l .before .if2 .left) (sym (l .next-line .ensures) ∙ o .enum-told .given .1)
 
 returns-6 : tie.Need-returns-6
 returns-6 c =
-    let e = c .before .before .before .before .before .before .before in
-    c .not-loaded4 .ensures ∙ finish-unread _ _ (e .if1 .left) (ready e) _ (sym (c .before .before .before .before .before .next-line .ensures) ∙ c .before .before .before .number .given .1)
+    let n = c .before .before .before in
+    let l = n .before .before in
+    let e = tested l in
+    c .not-loaded4 .ensures ∙ finish-unread _ _ (e .if1 .left) (ready e) _ (sym (l .next-line .ensures) ∙ n .number .given .1)
 
 returns-7 : tie.Need-returns-7
 returns-7 c =
-    let e = c .before .before .before .before .before .before .before .before .before .before .before in
-    c .ended .ensures ∙ finish-ended _ _ (e .if1 .left) (ready e) (found (c .before .before .before .before .before .before .before)) (c .before .before .before .before .before .number-at .ensures) (c .before .before .before .if3 .left) (c .before .before .before .before .number-at2 .ensures) (c .before .before .if4 .left)
+    let f = c .before .before in
+    let m = f .before .before in
+    let e = tested (line (ours m)) in
+    c .ended .ensures
+    ∙ finish-ended _ _ (e .if1 .left) (ready e) (found (ours m)) (m .before .number-at .ensures) (f .before .if3 .left) (m .number-at2 .ensures)
+    (f .if4 .left)
 
 pub finish-spec : {M : Type 1} → statement M
 finish-spec =

@@ -47,17 +47,27 @@ finish-requires c κs = c .read-kind9 .ensures .ready
 
 returns-2 : tie.Need-returns-2
 returns-2 c =
+    let methods = c .before in
+    let prerequisites = methods .before in
+    let exclusions = prerequisites .before in
+    let principals = exclusions .before in
+    let hierarchy = principals .before in
+    let demarcations = hierarchy .before in
+    let formulas = demarcations .before in
+    let edges = formulas .before in
+    let users = edges .before in
+    let head = users .before in
     c .finish .ensures
-    ∙ c .before .read-kind9 .ensures .same
-    ∙ c .before .before .read-kind8 .ensures .same
-    ∙ c .before .before .before .read-kind7 .ensures .same
-    ∙ c .before .before .before .before .read-kind6 .ensures .same
-    ∙ c .before .before .before .before .before .read-kind5 .ensures .same
-    ∙ c .before .before .before .before .before .before .read-kind4 .ensures .same
-    ∙ c .before .before .before .before .before .before .before .read-kind3 .ensures .same
-    ∙ c .before .before .before .before .before .before .before .before .read-kind2 .ensures .same
-    ∙ c .before .before .before .before .before .before .before .before .before .read-kind .ensures .same
-    ∙ c .before .before .before .before .before .before .before .before .before .before .read-head .ensures .same
+    ∙ methods .read-kind9 .ensures .same
+    ∙ prerequisites .read-kind8 .ensures .same
+    ∙ exclusions .read-kind7 .ensures .same
+    ∙ principals .read-kind6 .ensures .same
+    ∙ hierarchy .read-kind5 .ensures .same
+    ∙ demarcations .read-kind4 .ensures .same
+    ∙ formulas .read-kind3 .ensures .same
+    ∙ edges .read-kind2 .ensures .same
+    ∙ users .read-kind .ensures .same
+    ∙ head .read-head .ensures .same
 
 pub load-spec : {M : Type 1} → statement M
 load-spec =

@@ -15,6 +15,16 @@ use Rattle.reading.proofs.Heads.{head-unread, head-other, head-refused,
 use Rattle.reading.proofs.read_head.Statement.{statement}
 use Rattle.reading.proofs.read_head.Tie as tie
 
+-- the function's entry from the line that was read, that from a head, and that from a head whose numbers were judged
+abbrev entry : tie.After-next-line → tie.Start
+entry l = l .before .before .before
+
+abbrev line : tie.After-next → tie.After-next-line
+line n = n .before .before
+
+abbrev ours : tie.After-head-refusal → tie.After-next
+ours q = q .before .before .before .before
+
 blank-requires : tie.Need-blank-requires
 blank-requires c κs = search needs
 
@@ -49,39 +59,49 @@ stopped-requires-3 : tie.Need-stopped-requires-3
 stopped-requires-3 c κs = search needs
 
 -- the line that was found, and its numbers
-found : (n : tie.After-next) → FoundLine (n .before .before .before .before .before .args .text .now) 0 0x01 5 (n .next .given .0 .0) (n .next .given .0 .1 .0)
-found n = found-line _ 0 0x01 5 (sym (n .before .before .next-line .ensures) ∙ n .next .given .1)
+found : (n : tie.After-next) → FoundLine (entry (line n) .args .text .now) 0 0x01 5 (n .next .given .0 .0) (n .next .given .0 .1 .0)
+found n = found-line _ 0 0x01 5 (sym (line n .next-line .ensures) ∙ n .next .given .1)
 
-taken : (q : tie.After-head-refusal) → numbers head (found (q .before .before .before .before) .os) ≡ q .before .before .octet-at .result ∷ q .before .octet-at2 .result ∷ []
+taken : (q : tie.After-head-refusal)
+    → numbers head (found (ours q) .os) ≡ q .before .before .octet-at .result ∷ q .before .octet-at2 .result ∷ []
 taken q =
-    let f = found (q .before .before .before .before) in
-    let t = q .before .before .before .before .before .before .before .before .before .args .text .now in
+    let f = found (ours q) in
+    let t = entry (line (ours q)) .args .text .now in
     numbers-are t (f .os) 2 (f .framed) (f .sized) head refl
     ∙ sym (λ i. (q .before .before .octet-at .ensures ∙ one-octet t 2) i ∷ (q .before .octet-at2 .ensures ∙ one-octet t 3) i ∷ [])
 
 returns : tie.Need-returns
 returns c =
     let q = c .before .before in
-    subst (Starts _) (sym (c .stopped3 .ensures)) (head-refused _ (found (q .before .before .before .before)) _ _ (taken q) _ _ (q .head-refusal .ensures) (c .before .if1 .taken))
+    subst (Starts _) (sym (c .stopped3 .ensures))
+    (head-refused _ (found (ours q)) _ _ (taken q) _ _ (q .head-refusal .ensures) (c .before .if1 .taken))
 
 past-requires : tie.Need-past-requires
 past-requires c κs =
-    let m = sum-most _ (found (c .before .before .before .before .before) .framed) in
-    (record { few = omega arith; sum = omega arith }, omega (arith, found (c .before .before .before .before .before) .summed))
+    let f = found (ours (c .before)) in
+    let m = sum-most _ (f .framed) in
+    (record { few = omega arith; sum = omega arith }, omega (arith, f .summed))
 
 returns-2 : tie.Need-returns-2
-returns-2 c = subst (Starts _) (sym (c .stopped .ensures)) (head-other _ _ (c .before .before .before .before .before .before .pre) (sym (c .before .before .before .next-line .ensures) ∙ c .before .enum-told .given .1))
+returns-2 c =
+    let l = c .before .before .before in
+    subst (Starts _) (sym (c .stopped .ensures)) (head-other _ _ (entry l .pre) (sym (l .next-line .ensures) ∙ c .before .enum-told .given .1))
 
 returns-3 : tie.Need-returns-3
-returns-3 c = subst (Starts _) (sym (c .stopped2 .ensures)) (head-unread _ _ _ (sym (c .before .before .before .before .next-line .ensures) ∙ c .before .before .number .given .1))
+returns-3 c =
+    let n = c .before .before in
+    subst (Starts _) (sym (c .stopped2 .ensures)) (head-unread _ _ _ (sym (n .before .before .next-line .ensures) ∙ n .number .given .1))
 
 returns-4 : tie.Need-returns-4
 unfolding appended
 returns-4 c =
     let e = c .before in
     let q = e .before in
-    subst₂ (λ (at : Cursor) (r : Record). Starts (c .before .before .before .before .before .before .before .before .before .before .before .args .text .now) (stage at (appended head r (q .before .before .octet-at .result ∷ q .before .octet-at2 .result ∷ [])))) (sym (c .past .ensures)) (sym (c .before .before .before .before .before .before .before .before .before .blank .ensures))
-    (head-taken _ (found (q .before .before .before .before)) _ _ (taken q) (sym (e .if1 .left) ∙ q .head-refusal .ensures))
+    let l = line (ours q) in
+    let v = q .before .before .octet-at .result ∷ q .before .octet-at2 .result ∷ [] in
+    subst₂ (λ (k : Cursor) (r : Record). Starts (entry l .args .text .now) (stage k (appended head r v))) (sym (c .past .ensures))
+    (sym (l .before .blank .ensures))
+    (head-taken _ (found (ours q)) _ _ (taken q) (sym (e .if1 .left) ∙ q .head-refusal .ensures))
 
 pub read-head-spec : {M : Type 1} → statement M
 read-head-spec =

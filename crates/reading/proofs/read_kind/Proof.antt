@@ -1,4 +1,5 @@
--- `read_kind` meets its contract. What the loop keeps, for any kind, is `TakenLines`; in each arm the kind is known, and its stores are `appended` by computation.
+-- `read_kind` meets its contract. What the loop keeps, for any kind, is `TakenLines`; in each arm the kind is known, and its stores are
+-- `appendedAt` by computation.
 use Prim.Native.Nat.{ℕ, _+_, _-_, _<_}
 use mathlib.Core.Path.{_≡_, refl, sym, ap, subst}
 use mathlib.Core.List.{List}
@@ -24,21 +25,30 @@ Inv-loop text kind size cursor₀ rules₀ count₀ least-key₀ heights₀ curs
 abbrev μ-loop : tie.MeasureT-loop
 μ-loop text kind size cursor₀ rules₀ count₀ least-key₀ heights₀ cursor rules count least-key heights = length text - cursor .offset
 
--- the function's entry from the loop, and the loop from a line that is taken
+-- the function's entry from the loop; the loop from a line that was judged, and from one that is taken
 abbrev entry : tie.At-loop Inv-loop μ-loop → tie.Start Inv-loop μ-loop
 entry h = h .before .before .before .before .before .before
 
+abbrev judged : tie.After-judged-line Inv-loop μ-loop → tie.At-loop Inv-loop μ-loop
+judged l = l .before .before
+
 abbrev turn : tie.After-row Inv-loop μ-loop → tie.At-loop Inv-loop μ-loop
-turn q = q .before .before .before
+turn q = judged (q .before .before)
 
 returns : tie.Need-returns Inv-loop μ-loop
 returns c = reads-refused _ _ _ (c .if1 .taken)
 
 loop-holds : tie.Need-loop-holds Inv-loop μ-loop
-loop-holds c = let s = c .before .before .before .before .before in taken-start _ (s .pre .0) _ (c .before .if1 .left) (s .pre .1 (c .before .if1 .left))
+loop-holds c =
+    let e = c .before in
+    let s = e .before .before .before .before in
+    taken-start _ (s .pre .0) _ (e .if1 .left) (s .pre .1 (e .if1 .left))
 
 judged-line-requires : tie.Need-judged-line-requires Inv-loop μ-loop
-judged-line-requires c κs = let w = entry c .pre .0 in (w .table, taken-bound w (c .loop .inv), taken-heights w (c .loop .inv))
+judged-line-requires c κs =
+    let h = c .before in
+    let w = entry h .pre .0 in
+    (w .octet, taken-bound w (h .loop .inv), taken-heights w (h .loop .inv))
 
 enum-told : tie.Need-enum-told Inv-loop μ-loop
 enum-told c = search needs
@@ -46,20 +56,20 @@ enum-told c = search needs
 returns-2 : tie.Need-returns-2 Inv-loop μ-loop
 returns-2 c =
     let l = c .before .before in
-    let h = l .before in
+    let h = judged l in
     taken-all (entry h .pre .0) (h .loop .inv) (subst (Judges _ _ _ _ _ _) (c .enum-told .given .1) (l .judged-line .ensures))
 
 enum-known-number : tie.Need-enum-known-number Inv-loop μ-loop
 enum-known-number c = search needs
 
 stopped-requires : tie.Need-stopped-requires Inv-loop μ-loop
-stopped-requires c κs = let h = c .before .before .before .before in taken-bound (entry h .pre .0) (h .loop .inv) .few
+stopped-requires c κs = let h = judged (c .before .before .before) in taken-bound (entry h .pre .0) (h .loop .inv) .few
 
 returns-3 : tie.Need-returns-3 Inv-loop μ-loop
 returns-3 c =
     let n = c .before .before in
     let l = n .before .before in
-    let h = l .before in
+    let h = judged l in
     subst (Reads _ _ _) (sym (c .stopped .ensures))
     (taken-refused (entry h .pre .0) (h .loop .inv) (subst (Judges _ _ _ _ _ _) (n .number .given .1) (l .judged-line .ensures)))
 
@@ -69,15 +79,17 @@ enum-known-row c = search needs
 -- ---- a line is taken
 
 takes : (q : tie.After-row Inv-loop μ-loop) → let h = turn q in let x = entry h .args in let s = h .loop in let v = q .row .given .0 in
-    Takes (x .text .now) (s .cursor) (x .kind) (x .size) (boundsOf (s .rules) (s .count) (s .«least-key»)) (at (s .heights)) (v .0) (v .1 .0) (v .1 .1 .0) (v .1 .1 .1 .0)
+    Takes (x .text .now) (s .cursor) (x .kind) (x .size) (boundsOf (s .rules) (s .count) (s .«least-key»)) (at (s .heights))
+    (v .0) (v .1 .0) (v .1 .1 .0) (v .1 .1 .1 .0)
 takes q = subst (Judges _ _ _ _ _ _) (q .row .given .1) (q .before .before .judged-line .ensures)
 
 -- the row that it fills, once its kind is known
 fills : (q : tie.After-row Inv-loop μ-loop) (j : Kind) → let h = turn q in kindOf (entry h .args .kind) ≡ j → h .loop .count < room j
 fills q j x = let h = turn q in taken-room (entry h .pre .0) (h .loop .inv) (takes q) j x
 
-more : (q : tie.After-row Inv-loop μ-loop) (j : Kind) {after : Record} {tall : List ℕ} → let h = turn q in let x = entry h .args in let v = q .row .given .0 in kindOf (x .kind) ≡ j
-    → after ≡ appendedAt j (h .loop .count) (h .loop .rules) (fieldsOf j (v .0)) → (x .kind ≡ code formula → tall ≡ set (h .loop .heights) (h .loop .count) (v .1 .0))
+more : (q : tie.After-row Inv-loop μ-loop) (j : Kind) {after : Record} {tall : List ℕ} → let h = turn q in let x = entry h .args in
+    let v = q .row .given .0 in kindOf (x .kind) ≡ j → after ≡ appendedAt j (h .loop .count) (h .loop .rules) (fieldsOf j (v .0))
+    → (x .kind ≡ code formula → tall ≡ set (h .loop .heights) (h .loop .count) (v .1 .0))
     → TakenLines (x .text .now) (x .kind) (stage (x .from .cursor) (x .from .rules)) (v .1 .1 .1 .0) after (h .loop .count + 1) (v .1 .1 .0) tall
 more q j x y t = let h = turn q in taken-more (entry h .pre .0) (h .loop .inv) (takes q) j x y t
 
@@ -130,7 +142,9 @@ element-write-rules-8 : tie.Need-element-write-rules-8 Inv-loop μ-loop
 element-write-rules-8 c = fills (c .before .before) formula (ap kindOf (c .match2 .keys3))
 
 array-write-heights : tie.Need-array-write-heights Inv-loop μ-loop
-array-write-heights c = let h = turn (c .before .before) in omega (arith, fills (c .before .before) formula (ap kindOf (c .match2 .keys3)), h .loop .inv .high (c .match2 .keys3) .size)
+array-write-heights c =
+    let q = c .before .before in
+    omega (arith, fills q formula (ap kindOf (c .match2 .keys3)), turn q .loop .inv .high (c .match2 .keys3) .size)
 
 loop-less-3 : tie.Need-loop-less-3 Inv-loop μ-loop
 loop-less-3 c = less (c .before .before)
@@ -205,7 +219,7 @@ unfolding appendedAt
 loop-again-8 c = more (c .before .before) prerequisite (ap kindOf (c .match2 .keys8)) refl (λ z. absurd (omega (arith, c .match2 .keys8)))
 
 is-method : (c : tie.At-match2-rest Inv-loop μ-loop) → entry (turn (c .before .before)) .args .kind ≡ code method
-is-method c = last-kind (entry (turn (c .before .before)) .pre .0 .table) (c .match2 .rest)
+is-method c = last-kind (entry (turn (c .before .before)) .pre .0 .octet) (c .match2 .rest)
 
 element-write-rules-18 : tie.Need-element-write-rules-18 Inv-loop μ-loop
 element-write-rules-18 c = fills (c .before .before) method (ap kindOf (is-method c))

@@ -10,7 +10,7 @@ use borrow.Author.Needs.{needs}
 use Rattle.policy.specs.Loadable.{loadable}
 use Rattle.reading.specs.declared.Loaded.{Loaded}
 use Rattle.reading.specs.Loading.{load}
-use Rattle.reading.specs.LoadingLaws.{load-good}
+use Rattle.reading.specs.LoadingLaws.{as-loaded}
 use Rattle.bundle.specs.Writing.{bundleOf}
 use Rattle.bundle.specs.Altered.{load-number}
 use Rattle.rewriting.specs.Program.{refusedText, program}
@@ -70,7 +70,7 @@ loads : (c : tie.Else2) → loadable (c .before .before .load .result .rules) �
 loads c =
     let h = c .before .before in
     let e = h .load .ensures in
-    subst (λ (l : Loaded). loadable (l .rules) ≡ true) (sym e) (load-good (text h) (ap (λ (l : Loaded). l .number) (sym e) ∙ c .if2 .left) .loads)
+    subst (λ (l : Loaded). loadable (l .rules) ≡ true) (sym e) (as-loaded (text h) (ap (λ (l : Loaded). l .number) (sym e) ∙ c .if2 .left) .loads)
 
 prints : (c : tie.Else2) → bundleOf (c .before .before .load .result .rules) ≡ program (text (c .before .before))
 prints c =
