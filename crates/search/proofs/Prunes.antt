@@ -58,11 +58,11 @@ module _ {r : Masks} {limit s b : ℕ} where
   pub not-apart : (Apart s b → ⊥) → NoneHolds r limit s b
   not-apart f t h = f (λ q i j. h .apart q (h .held q i) j)
 
-  pub not-allowed : (Within s (r .allowed) → ⊥) → NoneHolds r limit s b
-  not-allowed f t h = f (λ p i. h .candidate .allowed p (h .held p i))
-
-  pub in-conflict : (ConflictFree r s → ⊥) → NoneHolds r limit s b
-  in-conflict f t h = f (λ p i q x y. h .candidate .consistent p (h .held p i) .apart q (h .held q x) y)
+  pub not-together : (Within s (r .allowed) → ConflictFree r s → ⊥) → NoneHolds r limit s b
+  not-together f t h =
+      f
+      (λ p i. h .candidate .allowed p (h .held p i))
+      (λ p i q x y. h .candidate .consistent p (h .held p i) .apart q (h .held q x) y)
 
   -- one of none is not to be had
   pub none-wanted : r .wanted ≡ 0 → r .every ≡ false → NoneHolds r limit s b

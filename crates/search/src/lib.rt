@@ -183,11 +183,14 @@ fn candidate(masks: Masks, s: u32) -> bool
 
 // ---- whether a set can be completed
 
-// False only where some member of s excludes another.
-fn conflict_free(masks: Masks, s: u32) -> bool
+// False only where some member of s is not allowed, or excludes another.
+fn allowed_together(masks: Masks, s: u32) -> bool
     requires { ⌜ masks .count ≤ mostPrincipals ⌝ }
-    ensures { λ r. ⌜ (r ≡ false → ConflictFree masks s → ⊥) ⌝ }
+    ensures { λ r. ⌜ (r ≡ false → Within s (masks .allowed) → ConflictFree masks s → ⊥) ⌝ }
 {
+    if !within(s, masks.allowed) {
+        return false;
+    }
     let count = masks.count;
     let mut p: usize = 0;
     while p < count {
@@ -213,10 +216,7 @@ fn admissible(masks: Masks, limit: usize, s: u32, barred: u32) -> bool
     if !apart(s, barred) {
         return false;
     }
-    if !within(s, masks.allowed) {
-        return false;
-    }
-    conflict_free(masks, s)
+    allowed_together(masks, s)
 }
 
 // Of the wanted privileges that are not granted, one that few principals can give: first one that none can, then one, then two.

@@ -64,7 +64,7 @@ shared-slice-read-digit-value c = omega arith
 digit-value-requires-2 : tie.Need-digit-value-requires-2 Inv-loop μ-loop
 digit-value-requires-2 c κs = search needs
 
--- where a second byte follows, the place at which the first was no line's end
+-- where a second byte stands, back to where the first was seen to be no line's end
 abbrev first-byte : tie.Else3 Inv-loop μ-loop → tie.Else1 Inv-loop μ-loop
 first-byte c = c .before .before .before
 
