@@ -7,8 +7,8 @@ use borrow.Author.Tests.{eq-eqb, ne-eqb}
 use Rattle.reading.specs.declared.Loaded.{Loaded}
 use Rattle.bundle.specs.declared.Written.{Written}
 use Rattle.bundle.specs.Writing.{written, bufferAfter}
-use Rattle.history.specs.Replay.{answeredCount}
-use Rattle.history.specs.Replay as replay
+use Rattle.replay.specs.Replay.{answeredCount}
+use Rattle.replay.specs.Replay as replay
 use Rattle.capi.specs.Interface.{packed, rewriteValue, rewriteBuffer, replayValue, replayBuffer}
 
 module _ {l m : Loaded} (same : l ≡ m) (buffer : List ℕ) where

@@ -5,8 +5,8 @@ use mathlib.Core.List.{List}
 use lib.Dec.{eqb}
 use Rattle.reading.specs.declared.Loaded.{Loaded}
 use Rattle.bundle.specs.Writing.{written, bufferAfter}
-use Rattle.history.specs.Replay.{answeredCount}
-use Rattle.history.specs.Replay as replay
+use Rattle.replay.specs.Replay.{answeredCount}
+use Rattle.replay.specs.Replay as replay
 
 abbrev pub packed : ℕ → ℕ → ℕ
 packed number value = number * 4294967296 + value % 4294967296

@@ -37,6 +37,6 @@ pub extern "C" fn access_replay(bundle: &[u8], calls: &[u8], answers: &mut [u8])
         return packed(loaded.number, 0);
     }
     let rules = loaded.rules;
-    let count = history::replay(rules, calls, answers);
+    let count = replay::replay(rules, calls, answers);
     packed(0, count)
 }

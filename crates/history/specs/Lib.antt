@@ -5,7 +5,4 @@ pub mod EditAgrees
 pub mod AskAgrees
 pub mod Demand3
 pub mod Theorem
-pub mod Replay
-pub mod LoadLaws
-pub mod ReplayLaws
 pub mod CrownTable

@@ -12,8 +12,8 @@ const NO_METHOD: u32 = 4294967294;
 // No set will do.
 const NO_SET: u32 = 4294967295;
 
-// A thing's number as a place of a table.
-fn place(x: u8) -> usize
+// A thing's number as an index of a table.
+fn index(x: u8) -> usize
     ensures { λ r. ⌜ r ≡ x ⌝ }
 {
     x as usize
@@ -29,12 +29,30 @@ pub extern "C" fn probe_formula(bundle: &[u8], formula: u8, object: u8, requesto
         return NO_FORMULA;
     }
     let rules = loaded.rules;
-    let f = place(formula);
+    let f = index(formula);
     if rules.formula_count <= f {
         return NO_FORMULA;
     }
-    let setting = formula::setting_of(rules, object, requestor);
-    if formula::true_at_object(setting, f) {
+    let roles = formula::roles_of(
+        rules.user_count,
+        &rules.user_objects,
+        &rules.user_roles,
+        requestor,
+    );
+    let holds = formula::true_at_object(
+        rules.edge_count,
+        &rules.edge_labels,
+        &rules.edge_sources,
+        &rules.edge_targets,
+        &rules.formula_ops,
+        &rules.formula_lefts,
+        &rules.formula_rights,
+        roles,
+        object,
+        requestor,
+        f,
+    );
+    if holds {
         return 1;
     }
     0
@@ -50,7 +68,7 @@ pub extern "C" fn probe_least(bundle: &[u8], method: u8, allowed: u32) -> u32
         return NO_METHOD;
     }
     let rules = loaded.rules;
-    let m = place(method);
+    let m = index(method);
     if rules.method_count <= m {
         return NO_METHOD;
     }

@@ -18,14 +18,14 @@ load-requires c κs = search needs
 returns : tie.Need-returns
 returns c = method-refused _ _ (c .before .before .load .ensures) _ _ (c .if1 .taken)
 
-place-requires : tie.Need-place-requires
-place-requires c κs = search needs
+index-requires : tie.Need-index-requires
+index-requires c κs = search needs
 
 returns-2 : tie.Need-returns-2
 returns-2 c =
     let p = c .before .before in
     let e = p .before .before in
-    method-absent _ _ (e .before .before .load .ensures) _ _ (e .if1 .left) (omega (arith, c .if2 .taken, p .place .ensures))
+    method-absent _ _ (e .before .before .load .ensures) _ _ (e .if1 .left) (omega (arith, c .if2 .taken, p .index .ensures))
 
 -- what was loaded
 abbrev loaded : tie.Else2 → tie.After-load
@@ -40,7 +40,7 @@ answers c =
     let h = c .before in
     let s = loaded h .before .before in
     let r = loaded h .load .result .rules in
-    let at : h .before .before .place .result ≡ s .args .method = h .before .before .place .ensures in
+    let at : h .before .before .index .result ≡ s .args .method = h .before .before .index .ensures in
     let there : s .args .method < r .«method_count» = omega (arith, h .if2 .left, at) in
     (λ j. setNumber (c .least .ensures j))
     ∙ (λ j. setNumber (least r (at j) (λ p. member p (s .args .allowed))))
@@ -64,7 +64,7 @@ probe-least-spec =
     (tie.spec
     load-requires
     returns
-    place-requires
+    index-requires
     returns-2
     least-requires
     enum-known-found

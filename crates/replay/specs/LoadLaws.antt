@@ -23,8 +23,8 @@ use Rattle.justification.specs.Predicates.{questionRefusal}
 use Rattle.memo.specs.Walk.{Outcome, granted, denied, evaluatedAll, eagerly, walk}
 use Rattle.memo.specs.Memo.{memoFor}
 use Rattle.access.specs.Access.{truthAt, answered, refused, asked, eager, lazy}
 use Rattle.history.specs.Book.{add, remove, askEagerly, askLazily}
-use Rattle.history.specs.Replay.{ListedCall, call, liberally, strictly, unknown, answerTo}
+use Rattle.replay.specs.Replay.{ListedCall, call, liberally, strictly, unknown, answerTo}
 
 -- the memo does not matter: each table is taken as before
 module _ (r : Record) (m : Memo) where

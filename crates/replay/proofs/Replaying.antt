@@ -9,7 +9,7 @@ use lib.ListN.{length, take, drop, length-append, length-drop}
 use lib.Seq.{take-append-seam, drop-append-add, drop-drop}
 use Rattle.policy.specs.declared.Record.{Record}
 use Rattle.access.specs.declared.Answer.{Answer}
-use Rattle.history.specs.Replay.{answerTo, answerOctets, listedCallAt, leftAfter, replies, answeredCount, bufferAfter}
+use Rattle.replay.specs.Replay.{answerTo, answerOctets, listedCallAt, leftAfter, replies, answeredCount, bufferAfter}
 
 length-replies : (r : Record) (calls : List ℕ) (n : ℕ) → length (replies r calls n) ≡ 5 * n
 unfolding replies

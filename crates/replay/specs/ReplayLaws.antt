@@ -5,13 +5,13 @@ use mathlib.Core.List.{List, [], _∷_, _++_}
 use Rattle.policy.specs.declared.Record.{Record}
 use Rattle.policy.specs.Table.{edge, rows}
 use Rattle.reading.specs.Loading.{load}
 use Rattle.history.specs.Book.{Call, add, remove, askEagerly, askLazily, Book, plain, bookAfterCall, bookAnswer, bookAfter, numberAndSet, engineLeaves, engineAfter}
 use Rattle.history.specs.Agrees.{Agrees}
 use Rattle.history.specs.EditAgrees.{add-number, remove-number}
 use Rattle.history.specs.AskAgrees.{eager-answer, lazy-answer}
 use Rattle.history.specs.Demand3.{CallHolds}
 use Rattle.history.specs.Theorem.{call-holds, call-agrees, start}
-use Rattle.history.specs.Replay.{ListedCall, call, liberally, strictly, unknown, answerTo, listedCallAt, leftAfter}
+use Rattle.replay.specs.Replay.{ListedCall, call, liberally, strictly, unknown, answerTo, listedCallAt, leftAfter}
 
 -- the call that a request is; a predicate and an unknown kind are none
 abbrev pub bookCallsOf : ListedCall → List Call

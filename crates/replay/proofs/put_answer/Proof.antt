@@ -2,9 +2,9 @@
 use native.Mathlib.Omega.{arith}
 use lib.ListN.{length-set}
 use borrow.Author.Needs.{needs}
-use Rattle.history.proofs.Stores.{five}
-use Rattle.history.proofs.put_answer.Statement.{statement}
-use Rattle.history.proofs.put_answer.Tie as tie
+use Rattle.replay.proofs.Stores.{five}
+use Rattle.replay.proofs.put_answer.Statement.{statement}
+use Rattle.replay.proofs.put_answer.Tie as tie
 
 slice-write-answers : tie.Need-slice-write-answers
 slice-write-answers c = search needs

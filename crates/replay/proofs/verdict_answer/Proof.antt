@@ -1,7 +1,7 @@
 -- `verdict_answer` meets its contract.
 use mathlib.Core.Path.{refl}
-use Rattle.history.proofs.verdict_answer.Statement.{statement}
-use Rattle.history.proofs.verdict_answer.Tie as tie
+use Rattle.replay.proofs.verdict_answer.Statement.{statement}
+use Rattle.replay.proofs.verdict_answer.Tie as tie
 
 returns : tie.Need-returns
 returns c = rw (c .if1 .taken) refl

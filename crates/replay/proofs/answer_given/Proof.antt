@@ -6,10 +6,10 @@ use Rattle.justification.specs.declared.Question.{Question}
 use Rattle.justification.specs.declared.Verdict.{Verdict}
 use Rattle.justification.specs.Predicates.{liberal, strict}
 use Rattle.access.specs.Access.{eager, lazy}
-use Rattle.history.specs.Replay.{answerTo, editAnswer, verdictAnswer}
-use Rattle.history.proofs.AnswerCases.{answer-case, no-answer-case}
-use Rattle.history.proofs.answer_given.Statement.{statement}
-use Rattle.history.proofs.answer_given.Tie as tie
+use Rattle.replay.specs.Replay.{answerTo, editAnswer, verdictAnswer}
+use Rattle.replay.proofs.AnswerCases.{answer-case, no-answer-case}
+use Rattle.replay.proofs.answer_given.Statement.{statement}
+use Rattle.replay.proofs.answer_given.Tie as tie
 
 add-edge-given-requires : tie.Need-add-edge-given-requires
 add-edge-given-requires c κs = c .before .pre

@@ -6,10 +6,10 @@ use lib.ListN.{length}
 use borrow.Author.Needs.{needs}
 use Rattle.policy.specs.Loadable.{loadable}
 use Rattle.access.specs.declared.Answer.{Answer}
-use Rattle.history.specs.LoadLaws.{answer-loads}
-use Rattle.history.proofs.Replaying.{Replaying, replaying-start, whole-fit, replaying-length, replaying-more, replaying-end}
-use Rattle.history.proofs.replay.Statement.{statement}
-use Rattle.history.proofs.replay.Tie as tie
+use Rattle.replay.specs.LoadLaws.{answer-loads}
+use Rattle.replay.proofs.Replaying.{Replaying, replaying-start, whole-fit, replaying-length, replaying-more, replaying-end}
+use Rattle.replay.proofs.replay.Statement.{statement}
+use Rattle.replay.proofs.replay.Tie as tie
 
 abbrev Inv-loop : tie.InvT-loop
 Inv-loop calls answers₀ n loads r₀ i₀ answers r i = Replaying calls answers₀ r₀ n answers r i × (loads ≡ loadable r)

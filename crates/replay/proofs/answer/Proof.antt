@@ -1,7 +1,7 @@
 -- `answer` meets its contract.
 use borrow.Author.Needs.{needs}
-use Rattle.history.proofs.answer.Statement.{statement}
-use Rattle.history.proofs.answer.Tie as tie
+use Rattle.replay.proofs.answer.Statement.{statement}
+use Rattle.replay.proofs.answer.Tie as tie
 
 loadable-requires : tie.Need-loadable-requires
 loadable-requires c κs = search needs

@@ -5,7 +5,7 @@ use borrow.Author.Tests.{ne-eqb}
 use Rattle.common.specs.Refusals.{wrongKind}
 use Rattle.policy.specs.declared.Record.{Record}
 use Rattle.access.specs.declared.Answer.{Answer}
-use Rattle.history.specs.Replay.{listedCallOf, answerTo}
+use Rattle.replay.specs.Replay.{listedCallOf, answerTo}
 
 -- of the kind k
 pub answer-case : (r : Record) (kind k a b c : ℕ) {got : Answer} → kind ≡ k → got ≡ answerTo r (listedCallOf k a b c) → got ≡ answerTo r (listedCallOf kind a b c)

@@ -1,0 +1,143 @@
+// Lists of requests, answered one after another, each on the record that those before it left. The theorem of demand 3 over such lists stands in specs/.
+
+ghost use mathlib.Core.Path.{_≡_};
+ghost use mathlib.Core.List.{[], _∷_, _++_};
+ghost use Prim.Native.Nat.{_+_, _/_, _≤_, min};
+ghost use lib.ListN.{length, take, drop};
+ghost use Rattle.octets.specs.Number.{inOctets};
+ghost use Rattle.policy.specs.Loadable as validity;
+ghost use Rattle.replay.specs.Replay.{listedCallOf, questionOf, editAnswer, verdictAnswer, answerTo, answeredCount, bufferAfter};
+use access::Answer;
+use justification::Question;
+use justification::Verdict;
+use policy::Edited;
+use policy::Record;
+
+// An edit's answer: no set, no evaluation.
+fn edit_answer(edited: Edited) -> Answer
+    ensures { λ r. ⌜ r ≡ editAnswer edited ⌝ }
+{
+    let rules = edited.rules;
+    Answer {
+        number: edited.number,
+        set: 0,
+        evaluations: 0,
+        rules: rules,
+    }
+}
+
+// A predicate's answer: 1 for yes; the record stays.
+fn verdict_answer(rules: Record, verdict: Verdict) -> Answer
+    ensures { λ r. ⌜ r ≡ verdictAnswer rules verdict ⌝ }
+{
+    if verdict.yes {
+        return Answer {
+            number: verdict.number,
+            set: 1,
+            evaluations: 0,
+            rules: rules,
+        };
+    }
+    Answer {
+        number: verdict.number,
+        set: 0,
+        evaluations: 0,
+        rules: rules,
+    }
+}
+
+// The question of a request: method, object, requestor.
+fn question_of(a: u8, b: u8, c: u8) -> Question
+    ensures { λ r. ⌜ r ≡ questionOf a b c ⌝ }
+{
+    Question {
+        method: a,
+        object: b,
+        requestor: c,
+    }
+}
+
+// Answers one request: 0 add, 1 remove, 2 eager, 3 lazy, 4 liberal, 5 strict; a kind above 5 is answered with 4.
+pub fn answer(rules: Record, kind: u8, a: u8, b: u8, c: u8) -> Answer
+    ensures { λ r. ⌜ r ≡ answerTo rules (listedCallOf kind a b c) ⌝ }
+{
+    let loads = policy::loadable::loadable(rules);
+    answer_given(rules, loads, kind, a, b, c)
+}
+
+// The same, where it is known whether some bundle loads to the record.
+fn answer_given(rules: Record, loads: bool, kind: u8, a: u8, b: u8, c: u8) -> Answer
+    requires { ⌜ loads ≡ validity.loadable rules ⌝ }
+    ensures { λ r. ⌜ r ≡ answerTo rules (listedCallOf kind a b c) ⌝ }
+{
+    match kind {
+        0 => edit_answer(rules.add_edge_given(loads, a, b, c)),
+        1 => edit_answer(rules.remove_edge_given(loads, a, b, c)),
+        2 => access::ask_eager_given(rules, loads, question_of(a, b, c)),
+        3 => access::ask_lazy_given(rules, loads, question_of(a, b, c)),
+        4 => verdict_answer(
+            rules,
+            justification::liberal_given(rules, loads, question_of(a, b, c)),
+        ),
+        5 => verdict_answer(
+            rules,
+            justification::strict_given(rules, loads, question_of(a, b, c)),
+        ),
+        6..=255 => Answer {
+            number: common::WRONG_KIND,
+            set: 0,
+            evaluations: 0,
+            rules: rules,
+        },
+    }
+}
+
+// How many requests are whole in the calls and have room in the answers.
+fn answerable(calls: usize, answers: usize) -> usize
+    ensures { λ r. ⌜ r ≡ min (calls / 4) (answers / 5) ⌝ }
+{
+    let whole = calls / 4;
+    let room = answers / 5;
+    if whole < room {
+        return whole;
+    }
+    room
+}
+
+// Puts an answer's five octets at a place: number, set in 3 octets, evaluations.
+fn put_answer(answers: &mut [u8], place: usize, number: u8, set: u32, evaluations: u8)
+    requires { ⌜ place + 5 ≤ length (now answers) ⌝ }
+    ensures { λ _. ⌜ now (answers .exit) ≡ take place (now (answers .entry)) ++ (((number ∷ []) ++ (inOctets 3 set ++ (evaluations ∷ []))) ++ drop (place + 5) (now (answers .entry))) ⌝ }
+{
+    answers[place] = number;
+    answers[place + 1] = (set / 256 / 256 % 256) as u8;
+    answers[place + 2] = (set / 256 % 256) as u8;
+    answers[place + 3] = (set % 256) as u8;
+    answers[place + 4] = evaluations;
+}
+
+// Answers the requests in turn, and returns how many. No request changes whether some bundle loads to the record: one test does for all.
+pub fn replay(rules: Record, calls: &[u8], answers: &mut [u8]) -> usize
+    ensures { λ r. ⌜ (r ≡ answeredCount (now (calls .entry)) (now (answers .entry))) × (now (answers .exit) ≡ bufferAfter rules (now (calls .entry)) (now (answers .entry))) ⌝ }
+{
+    let n = answerable(calls.len(), answers.len());
+    let loads = policy::loadable::loadable(rules);
+    let mut r = rules;
+    let mut i: usize = 0;
+    while i < n {
+        let at = 4 * i;
+        let got = answer_given(
+            r,
+            loads,
+            calls[at],
+            calls[at + 1],
+            calls[at + 2],
+            calls[at + 3],
+        );
+        put_answer(answers, 5 * i, got.number, got.set, got.evaluations);
+        let left = got.rules;
+        r = left;
+        i += 1;
+    }
+    n
+}
