@@ -25,7 +25,8 @@ use Rattle.justification.specs.Predicates.{questionRefusal}
 use Rattle.justification.specs.NamedLaws.{principal-named}
 use Rattle.justification.specs.Parts.{Marks}
 use Rattle.memo.specs.Memo.{value}
-use Rattle.memo.specs.Walk.{formulaOf, granted, denied, outcome, evaluatedAll, eagerly, tried, knownFalse, afterWeighing, walk, tryNext, searching}
+use Rattle.memo.specs.Walk.{formulaOf, granted, denied, outcome, evaluatedAll, eagerly, tried, knownFalse, afterWeighing, walk, tryNext}
+use Rattle.memo.specs.Walk.{searching}
 use Rattle.memo.specs.WalkLaws.{MemoLengths, walk-searches}
 use Rattle.memo.specs.declared.Tried.{Tried}
 use Rattle.memo.specs.Memo.{memoFor, newly}
@@ -43,7 +44,8 @@ pub truth-same : (r : Record) (q : Question) (roles : ℕ) → ((j : Kind) → t
     → ((a : ℕ) → member a roles ≡ holdsRole r (q .requestor) a)
     → (p : ℕ) → p < r .«principal_count» → trueAtObject r roles (q .object) (q .requestor) (formulaOf r p) ≡ truthAt r q (formulaOf r p)
 truth-same r q roles loads held p l =
-    true-at-holds r (formulaOf r p) (q .object) (q .requestor) roles held (principal-named r loads p l .0) (table-few r formula (loads formula))
+    true-at-holds r (formulaOf r p) (q .object) (q .requestor) roles held (principal-named r loads p l .0)
+    (table-few r formula (loads formula))
 
 -- every principal's formula has an index in the memo
 pub formula-small : (r : Record) → ((j : Kind) → tableLoads r j ≡ true) → (p : ℕ) → p < r .«principal_count» → formulaOf r p < mostFormulas
@@ -59,11 +61,16 @@ module _ (r : Record) (q : Question) where
   lazy-refused e h = sym (rw (ne-eqb (questionRefusal r q) 0 (λ z. h (e ∙ z))) (ap (λ (n : ℕ). refused n r) (sym e)))
 
   eager-is : 0 ≡ questionRefusal r q
-      → answered r (memoFor (r .memo) q) (eagerly r (q .method) (evaluatedAll (truthAt r q) r (memoFor (r .memo) q) (below (r .«principal_count»)))) ≡ eager r q
+      → answered r (memoFor (r .memo) q)
+      (eagerly r (q .method) (evaluatedAll (truthAt r q) r (memoFor (r .memo) q) (below (r .«principal_count»))))
+      ≡ eager r q
   unfolding eager
-  eager-is e = λ i. asked r (e i) (answered r (memoFor (r .memo) q) (eagerly r (q .method) (evaluatedAll (truthAt r q) r (memoFor (r .memo) q) (below (r .«principal_count»)))))
+  eager-is e =
+      λ i. asked r (e i) (answered r (memoFor (r .memo) q)
+      (eagerly r (q .method) (evaluatedAll (truthAt r q) r (memoFor (r .memo) q) (below (r .«principal_count»)))))
 
-  lazy-is : 0 ≡ questionRefusal r q → answered r (memoFor (r .memo) q) (walk (truthAt r q) r (memoFor (r .memo) q) (candidates r (q .method))) ≡ lazy r q
+  lazy-is : 0 ≡ questionRefusal r q
+      → answered r (memoFor (r .memo) q) (walk (truthAt r q) r (memoFor (r .memo) q) (candidates r (q .method))) ≡ lazy r q
   unfolding lazy
   lazy-is e = λ i. asked r (e i) (answered r (memoFor (r .memo) q) (walk (truthAt r q) r (memoFor (r .memo) q) (candidates r (q .method))))
 
@@ -74,12 +81,16 @@ module _ (r : Record) (q : Question) where
 
     -- eager: all evaluated, then the least set of those with the value true
     pub eager-answer : {after : Memo} {enabled : ℕ} {found : Option ℕ} → after ≡ evaluatedAll truth r before (below (r .«principal_count»))
-        → Marks (r .«principal_count») (λ p. value after (formulaOf r p)) enabled → found ≡ least r (q .method) (λ p. member p enabled) → answered r before (outcome after found) ≡ eager r q
+        → Marks (r .«principal_count») (λ p. value after (formulaOf r p)) enabled → found ≡ least r (q .method) (λ p. member p enabled)
+        → answered r before (outcome after found) ≡ eager r q
     unfolding eagerly
     eager-answer {after} {enabled} {found} e marks f =
         let same : after ≡ evaluatedAll (truthAt r q) r (memoFor (r .memo) q) (below (r .«principal_count»)) =
-        e ∙ evaluated-ext truth (truthAt r q) r (truth-same r q roles loads held) before ∙ ap (λ (k : Memo). evaluatedAll (truthAt r q) r k (below (r .«principal_count»))) first in
-        let chosen : found ≡ least r (q .method) (λ p. value after (formulaOf r p)) = f ∙ least-ext r (q .method) (λ p. member p enabled) (λ p. value after (formulaOf r p)) (marks-member marks) in
+        e
+        ∙ evaluated-ext truth (truthAt r q) r (truth-same r q roles loads held) before
+        ∙ ap (λ (k : Memo). evaluatedAll (truthAt r q) r k (below (r .«principal_count»))) first in
+        let chosen : found ≡ least r (q .method) (λ p. value after (formulaOf r p)) = f ∙ least-ext r (q .method) (λ p. member p enabled)
+        (λ p. value after (formulaOf r p)) (marks-member marks) in
         (λ i. answered r (first i) (outcome after (chosen i)))
         ∙ ap (λ (k : Memo). answered r (memoFor (r .memo) q) (eagerly r (q .method) k)) same
         ∙ eager-is zero-number
@@ -97,13 +108,42 @@ module _ (r : Record) (q : Question) where
 
 module _ (r : Record) (before after : Memo) {n : ℕ} (e : n ≡ newly before after) where
   pub granted-is : (c : ℕ)
-      → record { number = 0; set = c; evaluations = n; rules = withEdges r (r .«edge_count») (r .«edge_labels») (r .«edge_sources») (r .«edge_targets») after } ≡ answered r before (granted c after)
+      → record {
+        number = 0;
+        set = c;
+        evaluations = n;
+        rules = withEdges r (r .«edge_count») (r .«edge_labels») (r .«edge_sources») (r .«edge_targets»)
+            after;
+      }
+      ≡ answered r before (granted c after)
   unfolding answered withMemo
-  granted-is c = λ i. record { number = 0; set = c; evaluations = e i; rules = withEdges r (r .«edge_count») (r .«edge_labels») (r .«edge_sources») (r .«edge_targets») after }
+  granted-is c =
+      λ i. record {
+        number = 0;
+        set = c;
+        evaluations = e i;
+        rules = withEdges r (r .«edge_count») (r .«edge_labels») (r .«edge_sources»)
+            (r .«edge_targets») after;
+      }
 
-  pub denied-is : record { number = noSet; set = 0; evaluations = n; rules = withEdges r (r .«edge_count») (r .«edge_labels») (r .«edge_sources») (r .«edge_targets») after } ≡ answered r before (denied after)
+  pub denied-is :
+      record {
+        number = noSet;
+        set = 0;
+        evaluations = n;
+        rules = withEdges r (r .«edge_count») (r .«edge_labels») (r .«edge_sources»)
+            (r .«edge_targets») after;
+      }
+      ≡ answered r before (denied after)
   unfolding answered withMemo
-  denied-is = λ i. record { number = noSet; set = 0; evaluations = e i; rules = withEdges r (r .«edge_count») (r .«edge_labels») (r .«edge_sources») (r .«edge_targets») after }
+  denied-is =
+      λ i. record {
+        number = noSet;
+        set = 0;
+        evaluations = e i;
+        rules = withEdges r (r .«edge_count») (r .«edge_labels») (r .«edge_sources»)
+            (r .«edge_targets») after;
+      }
 
 -- ---- the searches, round by round
 
@@ -117,13 +157,16 @@ module _ (truth : ℕ → Bool) (r : Record) (k : ℕ) (before : Memo) where
   pub round-first : Round 0 before
   round-first = record { fuel = r .«principal_count» + 1; sum = omega arith; same = refl }
 
-  module _ {rounds : ℕ} {memo : Memo} (more : rounds ≤ r .«principal_count») (h : Round rounds memo) {allowed : ℕ} (marks : Marks (r .«principal_count») (λ p. not (knownFalse r memo p)) allowed) {found : Option ℕ}
+  module _ {rounds : ℕ} {memo : Memo} (more : rounds ≤ r .«principal_count») (h : Round rounds memo) {allowed : ℕ}
+      (marks : Marks (r .«principal_count») (λ p. not (knownFalse r memo p)) allowed) {found : Option ℕ}
       (is : found ≡ least r k (λ p. member p allowed)) where
     next-is : found ≡ least r k (λ p. not (knownFalse r memo p))
     next-is = is ∙ least-ext r k (λ p. member p allowed) (λ p. not (knownFalse r memo p)) (marks-member marks)
 
-    go : (n : ℕ) → n + rounds ≡ r .«principal_count» + 1 → searching n truth r k memo ≡ searching (r .«principal_count» + 1) truth r k before
-        → (l : ℕ) × (l + (rounds + 1) ≡ r .«principal_count» + 1) × (tryNext truth r memo found (searching l truth r k) ≡ searching (r .«principal_count» + 1) truth r k before)
+    go : (n : ℕ) → n + rounds ≡ r .«principal_count» + 1
+        → searching n truth r k memo ≡ searching (r .«principal_count» + 1) truth r k before
+        → (l : ℕ) × (l + (rounds + 1) ≡ r .«principal_count» + 1)
+        × (tryNext truth r memo found (searching l truth r k) ≡ searching (r .«principal_count» + 1) truth r k before)
     unfolding searching
     go zero e d = absurd (omega arith)
     go (suc l) e d = (l, omega arith, ap (λ (x : Option ℕ). tryNext truth r memo x (searching l truth r k)) next-is ∙ d)
@@ -135,7 +178,9 @@ module _ (truth : ℕ → Bool) (r : Record) (k : ℕ) (before : Memo) where
 
     module _ {c : ℕ} (e : found ≡ some c) (t : Tried) (w : weighedOf t ≡ tried truth r memo (members r c)) where
       weighed-next : (l : ℕ) → afterWeighing c (weighedOf t) (searching l truth r k) ≡ tryNext truth r memo found (searching l truth r k)
-      weighed-next l = ap (λ x. afterWeighing c x (searching l truth r k)) w ∙ ap (λ (x : Option ℕ). tryNext truth r memo x (searching l truth r k)) (sym e)
+      weighed-next l =
+          ap (λ x. afterWeighing c x (searching l truth r k)) w
+          ∙ ap (λ (x : Option ℕ). tryNext truth r memo x (searching l truth r k)) (sym e)
 
       pub round-granted : t .survives ≡ true → granted c (t .memo) ≡ searching (r .«principal_count» + 1) truth r k before
       round-granted v =
@@ -148,11 +193,13 @@ module _ (truth : ℕ → Bool) (r : Record) (k : ℕ) (before : Memo) where
           let on : afterWeighing c (weighedOf t) (searching l truth r k) ≡ searching l truth r k (t .memo) = rw v refl in
           record { fuel = l; sum = u; same = sym on ∙ weighed-next l ∙ d }
 
-  pub round-last : {rounds : ℕ} {memo : Memo} → r .«principal_count» < rounds → Round rounds memo → denied memo ≡ searching (r .«principal_count» + 1) truth r k before
+  pub round-last : {rounds : ℕ} {memo : Memo} → r .«principal_count» < rounds → Round rounds memo
+      → denied memo ≡ searching (r .«principal_count» + 1) truth r k before
   unfolding searching
   round-last {rounds} {memo} l h = end (h .fuel) (h .sum) (h .same)
     where
-      end : (n : ℕ) → n + rounds ≡ r .«principal_count» + 1 → searching n truth r k memo ≡ searching (r .«principal_count» + 1) truth r k before
+      end : (n : ℕ) → n + rounds ≡ r .«principal_count» + 1
+          → searching n truth r k memo ≡ searching (r .«principal_count» + 1) truth r k before
           → denied memo ≡ searching (r .«principal_count» + 1) truth r k before
       end zero e d = d
       end (suc n) e d = absurd (omega arith)

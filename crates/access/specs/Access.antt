@@ -35,8 +35,10 @@ asked r n answer = cond (eqb n 0) answer (refused n r)
 unfoldable pub eager : Record → Question → Answer
 eager r q =
     asked r (questionRefusal r q)
-    (answered r (memoFor (r .memo) q) (eagerly r (q .method) (evaluatedAll (truthAt r q) r (memoFor (r .memo) q) (below (r .«principal_count»)))))
+    (answered r (memoFor (r .memo) q)
+    (eagerly r (q .method) (evaluatedAll (truthAt r q) r (memoFor (r .memo) q) (below (r .«principal_count»)))))
 
 -- lazy: the candidates from all principals, least first; the first that survives
 unfoldable pub lazy : Record → Question → Answer
-lazy r q = asked r (questionRefusal r q) (answered r (memoFor (r .memo) q) (walk (truthAt r q) r (memoFor (r .memo) q) (candidates r (q .method))))
+lazy r q =
+    asked r (questionRefusal r q) (answered r (memoFor (r .memo) q) (walk (truthAt r q) r (memoFor (r .memo) q) (candidates r (q .method))))

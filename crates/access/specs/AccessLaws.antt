@@ -60,15 +60,18 @@ either-way : (r : Record) (n : ℕ) (x y : Answer) → SameNumberAndSet x y → 
 either-way r n x y h = go (eqb n 0)
   where
     go : (b : Bool)
-        → SameNumberAndSet (cond b x (record { number = n; set = 0; evaluations = 0; rules = r })) (cond b y (record { number = n; set = 0; evaluations = 0; rules = r }))
+        → SameNumberAndSet (cond b x (record { number = n; set = 0; evaluations = 0; rules = r }))
+        (cond b y (record { number = n; set = 0; evaluations = 0; rules = r }))
     go true = h
     go false = record { number = refl; set = refl }
 
-pub same-answer : (r : Record) (q : Question) → FormulasInMemo r (below (r .«principal_count»)) → MemoLengths (r .memo) → SameNumberAndSet (eager r q) (lazy r q)
+pub same-answer : (r : Record) (q : Question) → FormulasInMemo r (below (r .«principal_count»)) → MemoLengths (r .memo)
+    → SameNumberAndSet (eager r q) (lazy r q)
 unfolding eager lazy
 same-answer r q all h =
     either-way r (questionRefusal r q) _ _
-    (answers r before (eagerly r (q .method) (evaluatedAll (truthAt r q) r before (below (r .«principal_count»)))) (walk (truthAt r q) r before (candidates r (q .method)))
+    (answers r before (eagerly r (q .method) (evaluatedAll (truthAt r q) r before (below (r .«principal_count»))))
+    (walk (truthAt r q) r before (candidates r (q .method)))
     (agree (truthAt r q) r (q .method) before all (lengths-for (r .memo) q h)))
   where
     before : Memo
@@ -115,7 +118,8 @@ module _ (q : ℕ → Bool) where
         go true w = w
         go false w = known-all
 
-    weighed-within : (ps : List ℕ) (m : Memo) → All (λ p. q (formulaOf r p) ≡ true) ps → Within m → Within (weighedLeft (weighed truth r m ps))
+    weighed-within : (ps : List ℕ) (m : Memo) → All (λ p. q (formulaOf r p) ≡ true) ps → Within m
+        → Within (weighedLeft (weighed truth r m ps))
     unfolding weighed
     weighed-within ps m a h = go (any (knownFalse r m) ps)
       where
@@ -123,7 +127,8 @@ module _ (q : ℕ → Bool) where
         go true = h
         go false = tried-within ps m a h
 
-    walk-within : (cs : List ℕ) (m : Memo) → All (λ p. q (formulaOf r p) ≡ true) (below (r .«principal_count»)) → Within m → Within (left (walk truth r m cs))
+    walk-within : (cs : List ℕ) (m : Memo) → All (λ p. q (formulaOf r p) ≡ true) (below (r .«principal_count»)) → Within m
+        → Within (left (walk truth r m cs))
     unfolding walk
     walk-within [] m a h = h
     walk-within (c ∷ cs) m a h =
@@ -170,7 +175,12 @@ pub fewer-evaluations : (r : Record) (q : Question) → FormulasInMemo r (below 
 unfolding eager lazy
 fewer-evaluations r q all h =
     either-count r (questionRefusal r q) _ _
-    (rw (counted r before (walk truth r before (candidates r (q .method))), counted r before (eagerly r (q .method) after), left-eagerly r (q .method) after)
+    (rw (
+      counted r before (walk truth r before (candidates r (q .method))),
+      counted r before (eagerly r (q .method) after),
+      left-eagerly r
+          (q .method) after,
+    )
     (newly-fewer before (left (walk truth r before (candidates r (q .method)))) after
     (walk-within (known after) truth r (candidates r (q .method)) before (all-known truth r (below (r .«principal_count»)) before lengths all)
     (all-through truth r (below (r .«principal_count»)) before lengths all .keeps))))

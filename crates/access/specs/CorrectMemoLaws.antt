@@ -51,7 +51,8 @@ correct-for r m q h = go (eqb (m .object) (q .object) && eqb (m .requestor) (q .
 object-for : (m : Memo) (q : Question) → memoFor m q .object ≡ q .object
 unfolding memoFor emptied
 object-for m q =
-    go (eqb (m .object) (q .object) && eqb (m .requestor) (q .requestor)) (λ e. eqb-true (m .object) (q .object) (and-cases (eqb (m .object) (q .object)) (eqb (m .requestor) (q .requestor)) e .0))
+    go (eqb (m .object) (q .object) && eqb (m .requestor) (q .requestor))
+    (λ e. eqb-true (m .object) (q .object) (and-cases (eqb (m .object) (q .object)) (eqb (m .requestor) (q .requestor)) e .0))
   where
     go : (b : Bool) → (b ≡ true → m .object ≡ q .object) → cond b m (emptied (q .object) (q .requestor)) .object ≡ q .object
     go true h = h refl
@@ -60,7 +61,8 @@ object-for m q =
 requestor-for : (m : Memo) (q : Question) → memoFor m q .requestor ≡ q .requestor
 unfolding memoFor emptied
 requestor-for m q =
-    go (eqb (m .object) (q .object) && eqb (m .requestor) (q .requestor)) (λ e. eqb-true (m .requestor) (q .requestor) (and-cases (eqb (m .object) (q .object)) (eqb (m .requestor) (q .requestor)) e .1))
+    go (eqb (m .object) (q .object) && eqb (m .requestor) (q .requestor))
+    (λ e. eqb-true (m .requestor) (q .requestor) (and-cases (eqb (m .object) (q .object)) (eqb (m .requestor) (q .requestor)) e .1))
   where
     go : (b : Bool) → (b ≡ true → m .requestor ≡ q .requestor) → cond b m (emptied (q .object) (q .requestor)) .requestor ≡ q .requestor
     go true h = h refl
@@ -170,7 +172,8 @@ module _ (r : Record) (q : Question) where
 
   module _ where
     -- the least set of the enabled, with a memo that is kept
-    answers-least : (before : Memo) (a : Outcome) → chosen a ≡ least r (q .method) (isEnabled r q) → Kept (left a) → LeastAnswer r q (answered r before a)
+    answers-least : (before : Memo) (a : Outcome) → chosen a ≡ least r (q .method) (isEnabled r q) → Kept (left a)
+        → LeastAnswer r q (answered r before a)
     unfolding answered
     answers-least before (granted c n) e k =
         record { number = ap numberOf e; set = ap setOf e; memo = n; left = refl; lengths = k .lengths; correct = kept-correct k }
@@ -198,10 +201,12 @@ module _ (r : Record) (q : Question) where
       chosen-eager =
           chosen-outcome after (least r (q .method) (λ p. value after (formulaOf r p)))
           ∙ least-all r (q .method) (λ p. value after (formulaOf r p)) (isEnabled r q)
-          (enabled-values kept-after (below (r .«principal_count»)) (all-known (truthAt r q) r (below (r .«principal_count»)) before (kept-before .lengths) (formulas-in-memo r loads)))
+          (enabled-values kept-after (below (r .«principal_count»))
+          (all-known (truthAt r q) r (below (r .«principal_count»)) before (kept-before .lengths) (formulas-in-memo r loads)))
 
       answers-least-eager : LeastAnswer r q (answered r before (eagerly r (q .method) after))
-      answers-least-eager = answers-least before (eagerly r (q .method) after) chosen-eager (subst Kept (sym (left-eagerly r (q .method) after)) kept-after)
+      answers-least-eager =
+          answers-least before (eagerly r (q .method) after) chosen-eager (subst Kept (sym (left-eagerly r (q .method) after)) kept-after)
 
       answers-least-lazy : LeastAnswer r q (answered r before (walk (truthAt r q) r before (candidates r (q .method))))
       answers-least-lazy =
@@ -209,7 +214,8 @@ module _ (r : Record) (q : Question) where
           (sym (agree (truthAt r q) r (q .method) before (formulas-in-memo r loads) (kept-before .lengths)) ∙ chosen-eager)
           (walk-kept (candidates r (q .method)) before (formulas-in-memo r loads) kept-before)
 
-module _ (r : Record) (loads : (j : Kind) → tableLoads r j ≡ true) (room : MemoLengths (r .memo)) (true-memo : CorrectMemo r (r .memo)) (q : Question) (taken : questionRefusal r q ≡ 0) where
+module _ (r : Record) (loads : (j : Kind) → tableLoads r j ≡ true) (room : MemoLengths (r .memo)) (true-memo : CorrectMemo r (r .memo))
+    (q : Question) (taken : questionRefusal r q ≡ 0) where
   pub eager-true : LeastAnswer r q (eager r q)
   unfolding eager
   eager-true = not-refused r q taken _ (answers-least-eager r q loads room true-memo)

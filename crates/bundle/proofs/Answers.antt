@@ -29,7 +29,8 @@ module _ (r : Record) where
   unfolding measured lengthNeeded
   measures {w} e z = go (loadable r) refl (ap (λ (x : Written). x .number) (sym e) ∙ z) (ap (λ (x : Written). x .length) e)
     where
-      go : (x : Bool) → loadable r ≡ x → first (cause 19 (not x) ∷ []) ≡ 0 → w .length ≡ cond x (length (bundleOf r)) 0 → (loadable r ≡ true) × (w .length ≡ length (bundleOf r))
+      go : (x : Bool) → loadable r ≡ x → first (cause 19 (not x) ∷ []) ≡ 0 → w .length ≡ cond x (length (bundleOf r)) 0
+          → (loadable r ≡ true) × (w .length ≡ length (bundleOf r))
       go true p q l = (p, l)
       go false p q l = absurd (omega arith)
 
@@ -52,7 +53,8 @@ module _ (r : Record) where
           record { answers = rw (loads, s) (λ j. record { number = 18; length = e j }); buffer = rw (loads, s) refl; typed = t }
 
       -- 0
-      pub writes-all : {w : Written} {a : List ℕ} → w ≡ measured r → length (bundleOf r) ≤ length b → a ≡ bundleOf r ++ drop (length (bundleOf r)) b → Writes r b a w
+      pub writes-all : {w : Written} {a : List ℕ} → w ≡ measured r → length (bundleOf r) ≤ length b
+          → a ≡ bundleOf r ++ drop (length (bundleOf r)) b → Writes r b a w
       unfolding measured written bufferAfter writeRefusal
       writes-all e l f =
           let s = le-ltb (length b) (length (bundleOf r)) l in

@@ -12,7 +12,8 @@ use denote.Struct.Field.{uint-field, array-field}
 use borrow.Author.Needs.{elem-fits-field}
 use Rattle.common.specs.Lists.{at}
 use Rattle.policy.specs.declared.Record.{Record}
-use Rattle.policy.specs.Table.{Kind, head, user, edge, formula, demarcation, hierarchy, principal, exclusion, prerequisite, method, end, row}
+use Rattle.policy.specs.Table.{Kind, head, user, edge, formula, demarcation, hierarchy, principal, exclusion, prerequisite, method, end}
+use Rattle.policy.specs.Table.{row}
 use Rattle.policy.specs.TableLaws.{sized}
 use Rattle.reading.specs.Body.{widths}
 use Rattle.bundle.specs.Typed.{Fit, Typed}
@@ -22,7 +23,8 @@ pub record Column (w : Width) (n : ℕ) (c : List ℕ) : Type 0 where
   pub long : length c ≡ n
   pub low : (i : ℕ) → at c i < 2 ^ bits w
 
-pub column : (w : Width) (n : ℕ) (c : List ℕ) (vs : List Val) → T (leb (bits w) (bits w)) → shadow (array-field (uint-field w) n .row .own (map (λ (v : ℕ). v) c) vs) → Column w n c
+pub column : (w : Width) (n : ℕ) (c : List ℕ) (vs : List Val) → T (leb (bits w) (bits w))
+    → shadow (array-field (uint-field w) n .row .own (map (λ (v : ℕ). v) c) vs) → Column w n c
 column w n c vs t p = record { long = ap length (sym (map-id c)) ∙ p .1 .0 .1; low = λ i. elem-fits-field w w c (p .0) i (p .1 .1) t .fits }
 
 pub record Columns (r : Record) : Type 0 where

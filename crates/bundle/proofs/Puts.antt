@@ -9,7 +9,8 @@ use Rattle.common.specs.Lists.{at, table}
 use Rattle.octets.specs.Line.{framed, textOf}
 use Rattle.octets.specs.Number.{inOctets}
 use Rattle.policy.specs.declared.Record.{Record}
-use Rattle.policy.specs.Table.{Kind, head, user, edge, formula, demarcation, hierarchy, principal, exclusion, prerequisite, method, count, room, row}
+use Rattle.policy.specs.Table.{Kind, head, user, edge, formula, demarcation, hierarchy, principal, exclusion, prerequisite, method, count}
+use Rattle.policy.specs.Table.{room, row}
 use Rattle.policy.specs.Loadable.{loadable}
 use Rattle.policy.specs.LoadableLaws.{loadable-table, table-few}
 use Rattle.writing.specs.declared.Draft.{Draft}
@@ -72,10 +73,15 @@ module _ (r : Record) (t : Typed r) where
   user-lines = lines-of user r _ (λ i. λ j. framed 0x02 (own (t .fits user i .0) j ∷ inOctets 2 (at (r .«user_roles») i)))
 
   pub edge-lines : table (r .«edge_count») (tripleLine 0x03 (r .«edge_labels») (r .«edge_sources») (r .«edge_targets»)) ≡ tableLines edge r
-  edge-lines = lines-of edge r _ (λ i. λ j. framed 0x03 (own (t .fits edge i .0) j ∷ own (t .fits edge i .1 .0) j ∷ own (t .fits edge i .1 .1 .0) j ∷ []))
+  edge-lines =
+      lines-of edge r _
+      (λ i. λ j. framed 0x03 (own (t .fits edge i .0) j ∷ own (t .fits edge i .1 .0) j ∷ own (t .fits edge i .1 .1 .0) j ∷ []))
 
-  pub formula-lines : table (r .«formula_count») (tripleLine 0x04 (r .«formula_ops») (r .«formula_lefts») (r .«formula_rights»)) ≡ tableLines formula r
-  formula-lines = lines-of formula r _ (λ i. λ j. framed 0x04 (own (t .fits formula i .0) j ∷ own (t .fits formula i .1 .0) j ∷ own (t .fits formula i .1 .1 .0) j ∷ []))
+  pub formula-lines :
+      table (r .«formula_count») (tripleLine 0x04 (r .«formula_ops») (r .«formula_lefts») (r .«formula_rights»)) ≡ tableLines formula r
+  formula-lines =
+      lines-of formula r _
+      (λ i. λ j. framed 0x04 (own (t .fits formula i .0) j ∷ own (t .fits formula i .1 .0) j ∷ own (t .fits formula i .1 .1 .0) j ∷ []))
 
   pub demarcation-lines : table (r .«demarcation_count») (demarcationLine 0x05 (r .«demarcation_privileges»)) ≡ tableLines demarcation r
   demarcation-lines = lines-of demarcation r _ (λ i. refl)
@@ -83,14 +89,16 @@ module _ (r : Record) (t : Typed r) where
   pub hierarchy-lines : table (r .«hierarchy_count») (pairLine 0x06 (r .inferiors) (r .superiors)) ≡ tableLines hierarchy r
   hierarchy-lines = lines-of hierarchy r _ (λ i. λ j. framed 0x06 (own (t .fits hierarchy i .0) j ∷ own (t .fits hierarchy i .1 .0) j ∷ []))
 
-  pub principal-lines : table (r .«principal_count») (pairLine 0x07 (r .«principal_formulas») (r .«principal_demarcations»)) ≡ tableLines principal r
+  pub principal-lines :
+      table (r .«principal_count») (pairLine 0x07 (r .«principal_formulas») (r .«principal_demarcations»)) ≡ tableLines principal r
   principal-lines = lines-of principal r _ (λ i. λ j. framed 0x07 (own (t .fits principal i .0) j ∷ own (t .fits principal i .1 .0) j ∷ []))
 
   pub exclusion-lines : table (r .«exclusion_count») (pairLine 0x08 (r .«exclusion_lows») (r .«exclusion_highs»)) ≡ tableLines exclusion r
   exclusion-lines = lines-of exclusion r _ (λ i. λ j. framed 0x08 (own (t .fits exclusion i .0) j ∷ own (t .fits exclusion i .1 .0) j ∷ []))
 
   pub prerequisite-lines : table (r .«prerequisite_count») (pairLine 0x09 (r .prerequisites) (r .dependents)) ≡ tableLines prerequisite r
-  prerequisite-lines = lines-of prerequisite r _ (λ i. λ j. framed 0x09 (own (t .fits prerequisite i .0) j ∷ own (t .fits prerequisite i .1 .0) j ∷ []))
+  prerequisite-lines =
+      lines-of prerequisite r _ (λ i. λ j. framed 0x09 (own (t .fits prerequisite i .0) j ∷ own (t .fits prerequisite i .1 .0) j ∷ []))
 
   pub method-lines : table (r .«method_count») (methodLine 0x0A (r .«method_forms») (r .«method_privileges»)) ≡ tableLines method r
   method-lines = lines-of method r _ (λ i. λ j. framed 0x0A (own (t .fits method i .0) j ∷ inOctets 8 (at (r .«method_privileges») i)))

@@ -7,7 +7,8 @@ use native.Mathlib.Omega.{arith}
 use lib.ListN.{length, drop, length-append}
 use Rattle.octets.specs.Line.{textOf, totals}
 use Rattle.policy.specs.declared.Record.{Record}
-use Rattle.policy.specs.Table.{Kind, head, user, edge, formula, demarcation, hierarchy, principal, exclusion, prerequisite, method, end, kinds}
+use Rattle.policy.specs.Table.{Kind, head, user, edge, formula, demarcation, hierarchy, principal, exclusion, prerequisite, method, end}
+use Rattle.policy.specs.Table.{kinds}
 use Rattle.policy.specs.LinesBefore.{linesBefore}
 use Rattle.policy.specs.Loadable.{loadable}
 use Rattle.writing.specs.declared.Draft.{Draft}
@@ -19,7 +20,9 @@ use Rattle.bundle.specs.LengthLaws.{end-size, rules-few}
 
 rules-append : (ks js : List Kind) (r : Record) → ruleLines (ks ++ js) r ≡ ruleLines ks r ++ ruleLines js r
 rules-append [] js r = refl
-rules-append (k ∷ ks) js r = ap (λ (ls : List (List ℕ)). tableLines k r ++ ls) (rules-append ks js r) ∙ sym (append-assoc (tableLines k r) (ruleLines ks r) (ruleLines js r))
+rules-append (k ∷ ks) js r =
+    ap (λ (ls : List (List ℕ)). tableLines k r ++ ls) (rules-append ks js r)
+    ∙ sym (append-assoc (tableLines k r) (ruleLines ks r) (ruleLines js r))
 
 module _ (r : Record) where
   parts : ruleLines kinds r ≡ graphLines r ++ groundLines r
@@ -59,13 +62,19 @@ module _ (r : Record) where
               let n = counts in
               let same : length c ≡ length b = put-length (omega (arith, p .offset)) p in
               let again : length a ≡ length c = put-length (omega (arith, p .offset, q .offset)) q in
-              record { room = omega (arith, p .offset, q .offset); few = omega (arith, p .lines, q .lines); fair = omega (arith, p .lines, p .sum, p .fair, q .lines, q .sum, q .fair) }
+              record {
+                room = omega (arith, p .offset, q .offset);
+                few = omega (arith, p .lines, q .lines);
+                fair = omega
+                    (arith, p .lines, p .sum, p .fair, q .lines, q .sum, q .fair);
+              }
 
           all : Put b a start e (ruleLines kinds r)
           all = subst (Put b a start e) (sym parts) (put-join (omega arith) p q)
 
           -- THE LAW: the three parts written one after another are the bundle, and past it the buffer is as it was
-          pub whole : {z : List ℕ} {f : Draft} → Put a z e f (lineOctets end (e .lines ∷ e .sum ∷ []) ∷ []) → z ≡ bundleOf r ++ drop (length (bundleOf r)) b
+          pub whole : {z : List ℕ} {f : Draft} → Put a z e f (lineOctets end (e .lines ∷ e .sum ∷ []) ∷ [])
+              → z ≡ bundleOf r ++ drop (length (bundleOf r)) b
           unfolding bundleOf
           whole {z} {f} u =
               let ls = ruleLines kinds r in

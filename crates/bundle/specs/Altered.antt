@@ -42,7 +42,8 @@ line-number t k os =
     let v = numbers k os in
     let r = t .rules in
     let i = count k r in
-    go (misplaced t k os) (limited k && leb (room k) i) (not (inRange k i r v)) (rising k && ltb (key k v) (minimumKey k i r)) (endWrong t k v)
+    go (misplaced t k os) (limited k && leb (room k) i) (not (inRange k i r v)) (rising k && ltb (key k v) (minimumKey k i r))
+    (endWrong t k v)
   where
     go : (kind over out falls last : Bool) → first (cause wrongKind kind ∷ (causes over out falls ++ (cause wrongEnd last ∷ []))) ≤ 9
     go true over out falls last = omega arith
@@ -56,7 +57,9 @@ end-number : (t : Reading) → afterLastLine t .number ≤ 9
 unfolding afterLastLine
 end-number t = go (eqb (t .last) 0xFF) (circular (rows hierarchy (t .rules)) || circular (rows prerequisite (t .rules)))
   where
-    go : (x y : Bool) → cond (not x) (notLoaded wrongEnd (t .lines + 1)) (cond y (notLoaded refusals.circle (t .lines)) (record { number = 0; line = 0; rules = t .rules })) .number ≤ 9
+    go : (x y : Bool)
+        → cond (not x) (notLoaded wrongEnd (t .lines + 1))
+        (cond y (notLoaded refusals.circle (t .lines)) (record { number = 0; line = 0; rules = t .rules })) .number ≤ 9
     go false y = omega arith
     go true true = omega arith
     go true false = omega arith
@@ -65,9 +68,11 @@ read-number : {ls : List Framed} → Lines ls → (t : Reading) → read t ls .n
 unfolding read
 read-number none t = end-number t
 read-number (more (bad l h) p) t = omega arith
-read-number (more (good {os} f) p) t = go (eqb (lineRefusal t (kindOf (kindOctet os)) os) 0) _ (read-number p (afterLine t (kindOf (kindOctet os)) os))
+read-number (more (good {os} f) p) t =
+    go (eqb (lineRefusal t (kindOf (kindOctet os)) os) 0) _ (read-number p (afterLine t (kindOf (kindOctet os)) os))
   where
-    go : (x : Bool) (l : Loaded) → l .number ≤ 9 → cond x l (notLoaded (lineRefusal t (kindOf (kindOctet os)) os) (t .lines + 1)) .number ≤ 9
+    go : (x : Bool) (l : Loaded) → l .number ≤ 9
+        → cond x l (notLoaded (lineRefusal t (kindOf (kindOctet os)) os) (t .lines + 1)) .number ≤ 9
     go true l h = h
     go false l h = line-number t (kindOf (kindOctet os)) os
 

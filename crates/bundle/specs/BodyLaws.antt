@@ -1,4 +1,5 @@
--- A written line's kind octet, body and numbers are those it was written with, and a line is that of its numbers; the lines of a table, one by one.
+-- A written line's kind octet, body and numbers are those it was written with, and a line is that of its numbers; the lines of a
+-- table, one by one.
 use Prim.Native.Nat.{ℕ, zero, suc, _-_, _<_}
 use mathlib.Core.Path.{_≡_, refl, sym, _∙_, ap}
 use mathlib.Core.List.{List, [], _∷_, _++_}
@@ -12,7 +13,8 @@ use Rattle.octets.specs.Number.{number, inOctets}
 use Rattle.octets.specs.NumberLaws.{length-in-octets, octets-in-octets, number-in-octets, in-octets-number}
 use Rattle.octets.specs.WritingLaws.{Octets, octets-append, octets-take, length-framed, framed-again}
 use Rattle.policy.specs.declared.Record.{Record}
-use Rattle.policy.specs.Table.{Kind, head, user, edge, formula, demarcation, hierarchy, principal, exclusion, prerequisite, method, end, code, count, row}
+use Rattle.policy.specs.Table.{Kind, head, user, edge, formula, demarcation, hierarchy, principal, exclusion, prerequisite, method, end}
+use Rattle.policy.specs.Table.{code, count, row}
 use Rattle.reading.specs.Body.{widths, values, numbers}
 use Rattle.bundle.specs.Writing.{body, lineOctets, tableLines}
 use Rattle.bundle.specs.Typed.{Fit, Typed}
@@ -22,7 +24,8 @@ use Rattle.bundle.specs.FramedLaws.{Fine}
 
 pub length-body : (ws v : List ℕ) → length (body ws v) ≡ total ws
 length-body [] v = refl
-length-body (w ∷ ws) v = omega (arith, length-append (inOctets w (at v 0)) (body ws (drop 1 v)), length-in-octets w (at v 0), length-body ws (drop 1 v))
+length-body (w ∷ ws) v =
+    omega (arith, length-append (inOctets w (at v 0)) (body ws (drop 1 v)), length-in-octets w (at v 0), length-body ws (drop 1 v))
 
 pub octets-body : (ws v : List ℕ) → Octets (body ws v)
 octets-body [] v = tt
@@ -35,8 +38,10 @@ values-body [] (x ∷ v) e f = absurd (omega arith)
 values-body (w ∷ ws) [] e f = absurd (omega arith)
 values-body (w ∷ ws) (x ∷ v) e f =
     let size = length-in-octets w x in
-    let first : number (take w (inOctets w x ++ body ws v)) ≡ x = ap number (take-at (inOctets w x) (body ws v) w size) ∙ number-in-octets w x (f .0) in
-    let rest : values ws (drop w (inOctets w x ++ body ws v)) ≡ v = ap (values ws) (drop-at (inOctets w x) (body ws v) w size) ∙ values-body ws v (omega arith) (f .1) in
+    let first : number (take w (inOctets w x ++ body ws v)) ≡ x = ap number (take-at (inOctets w x) (body ws v) w size) ∙ number-in-octets w
+    x (f .0) in
+    let rest : values ws (drop w (inOctets w x ++ body ws v)) ≡ v = ap (values ws) (drop-at (inOctets w x) (body ws v) w size) ∙ values-body
+    ws v (omega arith) (f .1) in
     λ j. first j ∷ rest j
 
 -- ---- octets as numbers, and the numbers as octets again
@@ -77,7 +82,8 @@ module _ (k : Kind) (v : List ℕ) where
   line-numbers e f = ap (values (widths k)) line-body ∙ values-body (widths k) v e f
 
 -- THE LAW: an accepted line of kind k, of that kind's size, is the line of its numbers
-pub line-again : (k : Kind) (os : List ℕ) → kindOctet os ≡ code k → length (bodyOf os) ≡ total (widths k) → Fine os → lineOctets k (numbers k os) ≡ os
+pub line-again : (k : Kind) (os : List ℕ) → kindOctet os ≡ code k → length (bodyOf os) ≡ total (widths k) → Fine os
+    → lineOctets k (numbers k os) ≡ os
 line-again k os e size p =
     let b = body-values (widths k) (bodyOf os) size (octets-take (length os - 3) (drop 2 os) (octets-drop 2 os (p .small))) in
     (λ i. framed (sym e i) (b i)) ∙ sym (framed-again os (p .small) (p .long) (p .adds))

@@ -11,7 +11,8 @@ use Rattle.common.specs.Lists.{at, below}
 use Rattle.common.specs.ListLaws.{every-at, length-table, table-at}
 use Rattle.common.specs.Causes.{first}
 use Rattle.policy.specs.declared.Record.{Record}
-use Rattle.policy.specs.Table.{Kind, head, user, edge, formula, demarcation, hierarchy, principal, exclusion, prerequisite, method, end, code, count, room, row}
+use Rattle.policy.specs.Table.{Kind, head, user, edge, formula, demarcation, hierarchy, principal, exclusion, prerequisite, method, end}
+use Rattle.policy.specs.Table.{code, count, room, row}
 use Rattle.rows.specs.Op.{opOf, heightOf, formulaInRange}
 use Rattle.policy.specs.Height.{height}
 use Rattle.rows.specs.Checks.{causes}
@@ -43,7 +44,8 @@ unfolding inRange
 same-range head i p r a v = refl
 same-range user i p r a v = rw (a .objects)
 same-range edge i p r a v = rw (a .objects)
-same-range formula i p r a v = λ t. formulaInRange i (at v 0) (at v 1) (at v 2) (heightOf (opOf (at v 0)) (at v 1) (at v 2) (λ g. same-height p r i (a .above) g t))
+same-range formula i p r a v =
+    λ t. formulaInRange i (at v 0) (at v 1) (at v 2) (heightOf (opOf (at v 0)) (at v 1) (at v 2) (λ g. same-height p r i (a .above) g t))
 same-range demarcation i p r a v = refl
 same-range hierarchy i p r a v = rw (a .counts demarcation (omega arith))
 same-range principal i p r a v = rw (a .counts formula (omega arith), a .counts demarcation (omega arith))
@@ -55,7 +57,8 @@ same-range end i p r a v = refl
 -- THE LAW
 pub same-refusal : (k : Kind) (i : ℕ) (p r : Record) → Agree k i p r → (v : List ℕ) → rowRefusal k i p v ≡ rowRefusal k i r v
 unfolding rowRefusal rowCauses
-same-refusal k i p r a v = λ t. first (causes (limited k && leb (room k) i) (not (same-range k i p r a v t)) (rising k && ltb (key k v) (same-least k i p r a t)))
+same-refusal k i p r a v =
+    λ t. first (causes (limited k && leb (room k) i) (not (same-range k i p r a v t)) (rising k && ltb (key k v) (same-least k i p r a t)))
 
 -- the head is held to its own numbers only
 pub head-refusal : (p r : Record) (v : List ℕ) → rowRefusal head 1 p v ≡ rowRefusal head 0 r v
@@ -66,6 +69,7 @@ head-refusal p r v = refl
 pub row-passes : (r : Record) → loadable r ≡ true → (k : Kind) (i : ℕ) → i < count k r → rowRefusal k i r (row k i r) ≡ 0
 row-passes r loads k i l =
     let n = length-table (count k r) (λ (m : ℕ). m) in
-    let e = every-at (λ m. eqb (rowRefusal k m r (row k m r)) 0) (below (count k r)) i 0 (table-rows r k (loadable-table r loads k)) (omega arith) in
+    let e = every-at (λ m. eqb (rowRefusal k m r (row k m r)) 0) (below (count k r)) i 0 (table-rows r k (loadable-table r loads k))
+    (omega arith) in
     let s = table-at (count k r) (λ (m : ℕ). m) i 0 l in
     eqb-true _ _ (ap (λ (m : ℕ). eqb (rowRefusal k m r (row k m r)) 0) (sym s) ∙ e)

@@ -47,7 +47,8 @@ columns-none m [] s = refl
 columns-none m (c ∷ cs) s = λ j. sym (cut-none c ∙ ap (λ (n : ℕ). replicate n 0) (s .0)) j ∷ columns-none m cs (s .1) j
 
 -- v holds, from the place i on, the number at n of each column
-pub columns-more : (n m : ℕ) → n < m → (cs : List (List ℕ)) → Long m cs → (v : List ℕ) (i : ℕ) → ((j : ℕ) → at v (i + j) ≡ at (map (λ c. at c n) cs) j)
+pub columns-more : (n m : ℕ) → n < m → (cs : List (List ℕ)) → Long m cs → (v : List ℕ) (i : ℕ)
+    → ((j : ℕ) → at v (i + j) ≡ at (map (λ c. at c n) cs) j)
     → written (map (cut n) cs) n v i ≡ map (cut (suc n)) cs
 columns-more n m l [] s v i e = refl
 columns-more n m l (c ∷ cs) s v i e =

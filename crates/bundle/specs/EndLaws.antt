@@ -40,7 +40,9 @@ module _ {ls : List (List ℕ)} {t : Reading} (read : Read ls t) (few : length l
 
   end-right : endWrong t end (numbers end (endLine ls)) ≡ false
   unfolding endWrong
-  end-right = ap (endWrong t end) end-numbers ∙ rw (eq-eqb (length ls) (t .lines) (sym (read .lines)), eq-eqb (totals ls) (t .sum) (sym (read .sum)))
+  end-right =
+      ap (endWrong t end) end-numbers
+      ∙ rw (eq-eqb (length ls) (t .lines) (sym (read .lines)), eq-eqb (totals ls) (t .sum) (sym (read .sum)))
 
   pub read-end : 0 < t .lines → t .last < 0x0B → Read (withEnd ls) (afterLine t end (endLine ls))
   read-end some last = read-more read end (endLine ls) taken end-right
@@ -60,7 +62,8 @@ module _ {ls : List (List ℕ)} {t : Reading} (read : Read ls t) (few : length l
 -- ---- after it
 
 -- no circles, whatever the memo
-no-circle : (r : Record) (m : Memo) → loadable r ≡ true → (circular (rows hierarchy (withMemo r m)) || circular (rows prerequisite (withMemo r m))) ≡ false
+no-circle : (r : Record) (m : Memo) → loadable r ≡ true
+    → (circular (rows hierarchy (withMemo r m)) || circular (rows prerequisite (withMemo r m))) ≡ false
 unfolding loadable withMemo
 no-circle r m loads =
     let p = and-cases (not (circular (rows hierarchy r))) _ (and-cases (every (tableLoads r) kinds) _ loads .1) in
@@ -70,5 +73,6 @@ pub at-end : (r : Record) (m : Memo) → loadable r ≡ true → (t : Reading) (
     → afterLastLine (afterLine t end os) ≡ record { number = 0; line = 0; rules = withMemo r m }
 unfolding afterLastLine afterLine appended
 at-end r m loads t os e =
-    ap (λ (p : Record). cond (circular (rows hierarchy p) || circular (rows prerequisite p)) (notLoaded refusals.circle (t .lines + 1)) (record { number = 0; line = 0; rules = p })) e
+    ap (λ (p : Record). cond (circular (rows hierarchy p) || circular (rows prerequisite p)) (notLoaded refusals.circle (t .lines + 1))
+    (record { number = 0; line = 0; rules = p })) e
     ∙ rw (no-circle r m loads)

@@ -62,13 +62,17 @@ octetLines (refused n ∷ ls) = octetLines ls
 octetLines (octets os ∷ ls) = os ∷ octetLines ls
 
 -- a first line that is accepted, and the text that follows it
-first-text : (t : List ℕ) (f : Framed) (ls : List Framed) → frame t ≡ f → (every isAccepted ls ≡ true → restOf t ≡ textOf (octetLines ls)) → every isAccepted (f ∷ ls) ≡ true
+first-text : (t : List ℕ) (f : Framed) (ls : List Framed) → frame t ≡ f → (every isAccepted ls ≡ true → restOf t ≡ textOf (octetLines ls))
+    → every isAccepted (f ∷ ls) ≡ true
     → t ≡ textOf (octetLines (f ∷ ls))
 first-text t (refused n) ls e rest h = absurd (false≢true h)
 first-text t (octets os) ls e rest h =
-    written-again t e ∙ ap (λ (u : List ℕ). digits os ++ (0x0A ∷ u)) (rest h) ∙ sym (append-assoc (digits os) (0x0A ∷ []) (textOf (octetLines ls)))
+    written-again t e
+    ∙ ap (λ (u : List ℕ). digits os ++ (0x0A ∷ u)) (rest h)
+    ∙ sym (append-assoc (digits os) (0x0A ∷ []) (textOf (octetLines ls)))
 
-starts-text : (t : List ℕ) (ls : List Framed) → (every isAccepted ls ≡ true → restOf t ≡ textOf (octetLines ls)) → every isAccepted (starts t ls) ≡ true
+starts-text : (t : List ℕ) (ls : List Framed) → (every isAccepted ls ≡ true → restOf t ≡ textOf (octetLines ls))
+    → every isAccepted (starts t ls) ≡ true
     → t ≡ textOf (octetLines (starts t ls))
 starts-text [] ls rest h = refl
 starts-text (b ∷ t) ls rest h = first-text (b ∷ t) (frame (b ∷ t)) ls refl rest h

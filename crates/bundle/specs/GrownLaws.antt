@@ -10,7 +10,8 @@ use lib.ListN.{length, drop}
 use borrow.Author.Tests.{ne-eqb}
 use Rattle.common.specs.Lists.{at, table}
 use Rattle.policy.specs.declared.Record.{Record}
-use Rattle.policy.specs.Table.{Kind, head, user, edge, formula, demarcation, hierarchy, principal, exclusion, prerequisite, method, end, code, isKind, kinds, count, columns, room, row, rows, blank, appended}
+use Rattle.policy.specs.Table.{Kind, head, user, edge, formula, demarcation, hierarchy, principal, exclusion, prerequisite, method, end}
+use Rattle.policy.specs.Table.{code, isKind, kinds, count, columns, room, row, rows, blank, appended}
 use Rattle.policy.specs.TableLaws.{same-kind, Sized, count-other, columns-other, count-same, row-kept, new-row}
 use Rattle.policy.specs.TableLaws as tables
 use Rattle.policy.specs.GrowthLaws.{blank-empty}
@@ -25,7 +26,8 @@ table-same zero f g h = refl
 table-same (suc n) f g h = λ t. table-same n f g (λ i l. h i (omega arith)) t ++ (h n (omega arith) t ∷ [])
 
 -- a line's body has as many numbers as its kind has columns
-pub as-many : (k : Kind) (r : Record) (b : List ℕ) → code k < 0xFF → tables.values (columns k r) (values (widths k) b) 0 ≡ values (widths k) b
+pub as-many : (k : Kind) (r : Record) (b : List ℕ) → code k < 0xFF
+    → tables.values (columns k r) (values (widths k) b) 0 ≡ values (widths k) b
 as-many head r b l = refl
 as-many user r b l = refl
 as-many edge r b l = refl
@@ -81,7 +83,8 @@ module _ (k : Kind) (r : Record) (v : List ℕ) (low : 1 < code k) (high : code 
   rows-more : rows k (appended k r v) ≡ rows k r ++ (v ∷ [])
   rows-more =
       ap (λ (n : ℕ). table n (λ i. row k i (appended k r v))) (count-same k r v low high ∙ add-one (count k r))
-      ∙ (λ t. table-same (count k r) (λ i. row k i (appended k r v)) (λ i. row k i r) (λ i l. row-kept k r v low k i l) t ++ ((new-row k r v low high s few ∙ all) t ∷ []))
+      ∙ (λ t. table-same (count k r) (λ i. row k i (appended k r v)) (λ i. row k i r) (λ i l. row-kept k r v low k i l) t ++
+      ((new-row k r v low high s few ∙ all) t ∷ []))
 
   table-more : tableLines k (appended k r v) ≡ tableLines k r ++ (lineOctets k v ∷ [])
   table-more = ap (map (lineOctets k)) rows-more ∙ map-append (lineOctets k) (rows k r) (v ∷ [])
@@ -90,7 +93,8 @@ module _ (k : Kind) (r : Record) (v : List ℕ) (low : 1 < code k) (high : code 
   empty-still j l = count-other k j r v (ne-eqb (code k) (code j) (λ e. omega arith)) ∙ empty j l
 
   -- kind k's lines and those of the kinds after it
-  own-last : (n : ℕ) (ks : List Kind) → Counted n ks → code k ≡ n → tableLines k (appended k r v) ++ ruleLines ks (appended k r v) ≡ (tableLines k r ++ ruleLines ks r) ++ (lineOctets k v ∷ [])
+  own-last : (n : ℕ) (ks : List Kind) → Counted n ks → code k ≡ n
+      → tableLines k (appended k r v) ++ ruleLines ks (appended k r v) ≡ (tableLines k r ++ ruleLines ks r) ++ (lineOctets k v ∷ [])
   own-last n ks c e =
       let after = no-lines (appended k r v) n ks c (λ j l. empty-still j (omega arith)) in
       let before = no-lines r n ks c (λ j l. empty j (omega arith)) in
@@ -99,17 +103,20 @@ module _ (k : Kind) (r : Record) (v : List ℕ) (low : 1 < code k) (high : code 
       ∙ ap (λ (ls : List (List ℕ)). ls ++ (lineOctets k v ∷ [])) (sym ((λ t. tableLines k r ++ before t) ∙ append-nil (tableLines k r)))
 
   -- the lines of kinds among which k is
-  more-from : (n : ℕ) (ks : List Kind) → Counted n ks → n < code k → code k ≤ n + length ks → ruleLines ks (appended k r v) ≡ ruleLines ks r ++ (lineOctets k v ∷ [])
+  more-from : (n : ℕ) (ks : List Kind) → Counted n ks → n < code k → code k ≤ n + length ks
+      → ruleLines ks (appended k r v) ≡ ruleLines ks r ++ (lineOctets k v ∷ [])
   more-from n [] c l h = absurd (omega arith)
   more-from n (j ∷ ks) c l h = go (decLt (code j) (code k)) (more-from (suc n) ks (c .1))
     where
-      go : Dec (code j < code k) → (suc n < code k → code k ≤ suc n + length ks → ruleLines ks (appended k r v) ≡ ruleLines ks r ++ (lineOctets k v ∷ []))
+      go : Dec (code j < code k)
+          → (suc n < code k → code k ≤ suc n + length ks → ruleLines ks (appended k r v) ≡ ruleLines ks r ++ (lineOctets k v ∷ []))
           → ruleLines (j ∷ ks) (appended k r v) ≡ ruleLines (j ∷ ks) r ++ (lineOctets k v ∷ [])
       go (yes below) ih =
           (λ t. lines-other k j r v (ne-eqb (code k) (code j) (λ e. omega arith)) t ++ ih (omega (arith, c .0)) (omega arith) t)
           ∙ sym (append-assoc (tableLines j r) (ruleLines ks r) (lineOctets k v ∷ []))
       go (no q) ih =
-          subst (λ (i : Kind). tableLines i (appended k r v) ++ ruleLines ks (appended k r v) ≡ (tableLines i r ++ ruleLines ks r) ++ (lineOctets k v ∷ []))
+          subst (λ (i : Kind). tableLines i (appended k r v) ++ ruleLines ks (appended k r v) ≡ (tableLines i r ++ ruleLines ks r) ++
+          (lineOctets k v ∷ []))
           (same-kind k j (omega (arith, c .0)))
           (own-last (suc n) ks (c .1) (omega (arith, c .0)))
 

@@ -9,7 +9,8 @@ use Rattle.common.specs.ListLaws.{length-table}
 use Rattle.octets.specs.Line.{total, lineBytes, textOf, totals}
 use Rattle.octets.specs.WritingLaws.{length-line}
 use Rattle.policy.specs.declared.Record.{Record}
-use Rattle.policy.specs.Table.{Kind, head, user, edge, formula, demarcation, hierarchy, principal, exclusion, prerequisite, method, end, code, kinds, count, room, row}
+use Rattle.policy.specs.Table.{Kind, head, user, edge, formula, demarcation, hierarchy, principal, exclusion, prerequisite, method, end}
+use Rattle.policy.specs.Table.{code, kinds, count, room, row}
 use Rattle.policy.specs.Loadable.{loadable}
 use Rattle.policy.specs.LoadableLaws.{loadable-table, table-few}
 use Rattle.writing.specs.DraftLaws.{text-append, text-size}
@@ -29,14 +30,19 @@ table-count k r = ap length (table-lines k r) ∙ length-table (count k r) (λ i
 pub table-size : (k : Kind) (r : Record) → length (textOf (tableLines k r)) ≡ count k r * lineSize k
 table-size k r =
     ap (λ (ls : List (List ℕ)). length (textOf ls)) (table-lines k r)
-    ∙ text-size (count k r) (lineSize k) (λ i. lineOctets k (row k i r)) (λ i. length-line (code k) (body (widths k) (row k i r)) ∙ ap (λ (n : ℕ). 2 * n + 7) (length-body (widths k) (row k i r)))
+    ∙ text-size (count k r) (lineSize k) (λ i. lineOctets k (row k i r))
+    (λ i. length-line (code k) (body (widths k) (row k i r)) ∙ ap (λ (n : ℕ). 2 * n + 7) (length-body (widths k) (row k i r)))
 
 -- a table, and those of later kinds
 pub rest-count : (k : Kind) (ks : List Kind) (r : Record) → length (ruleLines (k ∷ ks) r) ≡ count k r + length (ruleLines ks r)
 rest-count k ks r = length-append (tableLines k r) (ruleLines ks r) ∙ ap (λ (n : ℕ). n + length (ruleLines ks r)) (table-count k r)
 
-pub rest-size : (k : Kind) (ks : List Kind) (r : Record) → length (textOf (ruleLines (k ∷ ks) r)) ≡ count k r * lineSize k + length (textOf (ruleLines ks r))
-rest-size k ks r = ap length (text-append (tableLines k r) (ruleLines ks r)) ∙ length-append (textOf (tableLines k r)) (textOf (ruleLines ks r)) ∙ ap (λ (n : ℕ). n + length (textOf (ruleLines ks r))) (table-size k r)
+pub rest-size : (k : Kind) (ks : List Kind) (r : Record)
+    → length (textOf (ruleLines (k ∷ ks) r)) ≡ count k r * lineSize k + length (textOf (ruleLines ks r))
+rest-size k ks r =
+    ap length (text-append (tableLines k r) (ruleLines ks r))
+    ∙ length-append (textOf (tableLines k r)) (textOf (ruleLines ks r))
+    ∙ ap (λ (n : ℕ). n + length (textOf (ruleLines ks r))) (table-size k r)
 
 -- ---- the whole
 
@@ -45,7 +51,8 @@ end-size v = length-append (lineBytes (lineOctets end v)) [] ∙ ap (λ (n : ℕ
 
 pub bundle-length : (r : Record)
     → length (bundleOf r)
-    ≡ 11 + 13 * (r .«user_count» + r .«edge_count» + r .«formula_count») + 11 * (r .«hierarchy_count» + r .«principal_count» + r .«exclusion_count» + r .«prerequisite_count»)
+    ≡ 11 + 13 * (r .«user_count» + r .«edge_count» + r .«formula_count») + 11 *
+    (r .«hierarchy_count» + r .«principal_count» + r .«exclusion_count» + r .«prerequisite_count»)
     + (23 * r .«demarcation_count» + 25 * r .«method_count») + 19
 unfolding bundleOf
 bundle-length r =

@@ -58,7 +58,8 @@ module _ (t : Reading) (os : List ℕ) (done : List (List ℕ)) (fine : Fine os)
       ∙ ap (λ (ls : List (List ℕ)). ls ++ (os ∷ [])) (sym (no-length done (sym (h .lines) ∙ z)))
 
   -- a kind between head and end
-  next-line : (k : Kind) → 1 < code k → code k < 0xFF → Taken t k os → ruleLines kinds (appended k (t .rules) (numbers k os)) ≡ done ++ (os ∷ [])
+  next-line : (k : Kind) → 1 < code k → code k < 0xFF → Taken t k os
+      → ruleLines kinds (appended k (t .rules) (numbers k os)) ≡ done ++ (os ∷ [])
   next-line k low high w =
       lines-more k (t .rules) (numbers k os) low high (s .sized)
       (room-left k (t .rules) (numbers k os) low high (s .loads some) (w .passes))
@@ -70,7 +71,8 @@ module _ (t : Reading) (os : List ℕ) (done : List (List ℕ)) (fine : Fine os)
       some z = false≢true (sym (ne-eqb (code k) 1 (λ q. omega arith)) ∙ w .head-first z)
 
   -- the end line
-  end-line : Taken t end os → lineRefusal t end os ≡ 0 → withEnd (ruleLines kinds (appended end (t .rules) (numbers end os))) ≡ done ++ (os ∷ [])
+  end-line : Taken t end os → lineRefusal t end os ≡ 0
+      → withEnd (ruleLines kinds (appended end (t .rules) (numbers end os))) ≡ done ++ (os ∷ [])
   end-line w e =
       let v = numbers end os in
       let (count, sum) = taken-end t os e in
@@ -90,7 +92,9 @@ module _ (t : Reading) (os : List ℕ) (done : List (List ℕ)) (fine : Fine os)
       }
     where
       not-last : code k ≢ 0xFF → Sort k → ruleLines kinds (appended k (t .rules) (numbers k os)) ≡ done ++ (os ∷ [])
-      not-last o (is-head q) = subst (λ (i : Kind). Taken t i os → ruleLines kinds (appended i (t .rules) (numbers i os)) ≡ done ++ (os ∷ [])) q first-line (taken t k os e)
+      not-last o (is-head q) =
+          subst (λ (i : Kind). Taken t i os → ruleLines kinds (appended i (t .rules) (numbers i os)) ≡ done ++ (os ∷ [])) q first-line
+          (taken t k os e)
       not-last o (between low high) = next-line k low high (taken t k os e)
       not-last o (is-end q) = absurd (o (ap code (sym q)))
 
@@ -98,7 +102,9 @@ module _ (t : Reading) (os : List ℕ) (done : List (List ℕ)) (fine : Fine os)
       at-last z (is-head q) = let b : code head ≡ 0xFF = ap code q ∙ z in absurd (omega arith)
       at-last z (between low high) = absurd (omega arith)
       at-last z (is-end q) =
-          subst (λ (i : Kind). lineRefusal t i os ≡ 0 → withEnd (ruleLines kinds (appended i (t .rules) (numbers i os))) ≡ done ++ (os ∷ [])) q (λ f. end-line (taken t end os f) f) e
+          subst
+          (λ (i : Kind). lineRefusal t i os ≡ 0 → withEnd (ruleLines kinds (appended i (t .rules) (numbers i os))) ≡ done ++ (os ∷ [])) q
+          (λ f. end-line (taken t end os f) f) e
 
 -- ---- all lines
 
@@ -114,7 +120,8 @@ read-held (more {ls = ls} (good {os} f) p) t done s h e =
     let k = kindOf (kindOctet os) in
     let (z, q) = read-taken t os ls e in
     ap (λ (l : Loaded). withEnd (ruleLines kinds (l .rules))) q
-    ∙ read-held p (afterLine t k os) (done ++ (os ∷ [])) (sound-more t k os (taken t k os z) s) (held-more t os done f s h k z) (ap (λ (l : Loaded). l .number) (sym q) ∙ e)
+    ∙ read-held p (afterLine t k os) (done ++ (os ∷ [])) (sound-more t k os (taken t k os z) s) (held-more t os done f s h k z)
+    (ap (λ (l : Loaded). l .number) (sym q) ∙ e)
     ∙ append-assoc done (os ∷ []) (octetLines ls)
 
 -- THE LAW: a text that loads is the bundle of the record that it loads to

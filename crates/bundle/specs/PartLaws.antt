@@ -12,7 +12,8 @@ use borrow.Author.Tests.{ne-eqb}
 use Rattle.common.specs.Lists.{at}
 use Rattle.policy.specs.declared.Record.{Record}
 use Rattle.policy.specs.declared.Memo.{Memo}
-use Rattle.policy.specs.Table.{Kind, head, user, edge, formula, demarcation, hierarchy, principal, exclusion, prerequisite, method, end, code, isKind, count, columns, room, row, emptied, blank, appended, withMemo}
+use Rattle.policy.specs.Table.{Kind, head, user, edge, formula, demarcation, hierarchy, principal, exclusion, prerequisite, method, end}
+use Rattle.policy.specs.Table.{code, isKind, count, columns, room, row, emptied, blank, appended, withMemo}
 use Rattle.policy.specs.TableLaws.{Sized, same-kind, written, count-other, columns-other, count-same, columns-same}
 use Rattle.policy.specs.GrowthLaws.{blank-empty}
 use Rattle.policy.specs.Loadable.{loadable}
@@ -41,7 +42,8 @@ pub record Part (r : Record) (k : Kind) (i : ℕ) (p : Record) : Type 0 where
 pub objects-same : {r p : Record} → First r head 1 p → p .objects ≡ r .objects
 objects-same f = ap (λ (cs : List (List ℕ)). at (getD cs 1 []) 0) (f .cuts)
 
-first-other : {r : Record} {n : ℕ} {p : Record} (k j : Kind) (v : List ℕ) → (code k ≡ code j → ⊥) → First r j n p → First r j n (appended k p v)
+first-other : {r : Record} {n : ℕ} {p : Record} (k j : Kind) (v : List ℕ) → (code k ≡ code j → ⊥) → First r j n p
+    → First r j n (appended k p v)
 first-other {p = p} k j v e f =
     let o : isKind k j ≡ false = ne-eqb (code k) (code j) e in
     record { counted = count-other k j p v o ∙ f .counted; cuts = columns-other k j p v o ∙ f .cuts }
@@ -149,7 +151,8 @@ whole-head r s =
 abbrev Same : Record → Record → Kind → Type 0
 Same p r k = (count k p ≡ count k r) × (columns k p ≡ columns k r)
 
-same-record : (p r : Record) (m : Memo) → p .objects ≡ r .objects → p .memo ≡ m → ((k : Kind) → code k < 0x0B → Same p r k) → p ≡ withMemo r m
+same-record : (p r : Record) (m : Memo) → p .objects ≡ r .objects → p .memo ≡ m → ((k : Kind) → code k < 0x0B → Same p r k)
+    → p ≡ withMemo r m
 unfolding withMemo
 same-record p r m o e same =
     let u = same user (omega arith) in

@@ -29,7 +29,8 @@ pub record Room (buffer : List ℕ) (d : Draft) (ls : List (List ℕ)) : Type 0 
   pub few : d .lines + length ls ≤ mostLines + 1
   pub fair : d .sum ≤ greatestTotal * d .lines
 
--- what the writer does: its answer, the buffer afterwards, and that the record is one of its type (so that the laws of round trips speak of it)
+-- what the writer does: its answer, the buffer afterwards, and that the record is one of its type (so that the laws of round trips
+-- speak of it)
 pub record Writes (r : Record) (before after : List ℕ) (answer : Written) : Type 0 where
   pub answers : answer ≡ written r before
   pub buffer : after ≡ bufferAfter r before

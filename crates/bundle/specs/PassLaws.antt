@@ -7,7 +7,8 @@ use native.Mathlib.Omega.{arith}
 use borrow.Author.Tests.{eqb-true, ne-eqb}
 use Rattle.common.specs.Lists.{table}
 use Rattle.policy.specs.declared.Record.{Record}
-use Rattle.policy.specs.Table.{Kind, head, user, edge, formula, demarcation, hierarchy, principal, exclusion, prerequisite, method, end, code, kinds, count, row, blank, appended}
+use Rattle.policy.specs.Table.{Kind, head, user, edge, formula, demarcation, hierarchy, principal, exclusion, prerequisite, method, end}
+use Rattle.policy.specs.Table.{code, kinds, count, row, blank, appended}
 use Rattle.policy.specs.Rows.{rowRefusal}
 use Rattle.policy.specs.Loadable.{loadable}
 use Rattle.policy.specs.LoadableLaws.{loadable-table, table-few}
@@ -30,7 +31,8 @@ pub record Come (ls : List (List ℕ)) (c : ℕ) (P : Record → Type 0) : Type 
   pub rules : P (to .rules)
 
 come-as : {ls : List (List ℕ)} {c d : ℕ} {P Q : Record → Type 0} → c ≤ d → ((p : Record) → P p → Q p) → Come ls c P → Come ls d Q
-come-as l f x = record { to = x .to; read = x .read; some = x .some; last = let h = x .last in omega arith; rules = f (x .to .rules) (x .rules) }
+come-as l f x =
+    record { to = x .to; read = x .read; some = x .some; last = let h = x .last in omega arith; rules = f (x .to .rules) (x .rules) }
 
 come-same : {ls ms : List (List ℕ)} {c : ℕ} {P : Record → Type 0} → ls ≡ ms → Come ls c P → Come ms c P
 come-same {c = c} {P = P} e x = subst (λ (ns : List (List ℕ)). Come ns c P) e x
@@ -56,7 +58,9 @@ module _ (r : Record) (typed : Typed r) (loads : loadable r ≡ true) where
         read = read-more read-none head (rowLine head 0 r) taken (not-end atTop head (numbers head (rowLine head 0 r)) (omega arith));
         some = omega arith;
         last = omega arith;
-        rules = subst (λ (v : List ℕ). Whole r 2 (appended head blank v)) (sym (row-numbers r typed head 0 (omega arith))) (whole-head r (typed .sized));
+        rules =
+            subst (λ (v : List ℕ). Whole r 2 (appended head blank v)) (sym (row-numbers r typed head 0 (omega arith)))
+            (whole-head r (typed .sized));
       }
     where
       taken : Taken atTop head (rowLine head 0 r)
@@ -68,7 +72,10 @@ module _ (r : Record) (typed : Typed r) (loads : loadable r ≡ true) where
             head-first = λ e. refl;
             rises = omega arith;
             sized = line-size head (row head 0 r);
-            passes = ap (rowRefusal head 1 blank) (row-numbers r typed head 0 (omega arith)) ∙ head-refusal blank r (row head 0 r) ∙ row-passes r loads head 0 (omega arith);
+            passes =
+                ap (rowRefusal head 1 blank) (row-numbers r typed head 0 (omega arith))
+                ∙ head-refusal blank r (row head 0 r)
+                ∙ row-passes r loads head 0 (omega arith);
           }
 
   -- ---- a kind after the head
@@ -117,7 +124,8 @@ module _ (r : Record) (typed : Typed r) (loads : loadable r ≡ true) where
 
   -- ---- kinds one after another
 
-  come-kinds : {ls : List (List ℕ)} {c d : ℕ} (ks : List Kind) → Rise c ks d → code head < c → Come ls c (Whole r c) → Come (ls ++ ruleLines ks r) d (Whole r d)
+  come-kinds : {ls : List (List ℕ)} {c d : ℕ} (ks : List Kind) → Rise c ks d → code head < c → Come ls c (Whole r c)
+      → Come (ls ++ ruleLines ks r) d (Whole r d)
   come-kinds {ls} [] e l x = subst (λ (d : ℕ). Come (ls ++ []) d (Whole r d)) e (come-same (sym (append-nil ls)) x)
   come-kinds {ls} (k ∷ ks) e l x =
       come-same (append-assoc ls (tableLines k r) (ruleLines ks r))
@@ -126,6 +134,17 @@ module _ (r : Record) (typed : Typed r) (loads : loadable r ≡ true) where
   -- THE LAW: all lines but the end line
   pub come-rules : Come (ruleLines kinds r) 0x0B (Whole r 0x0B)
   come-rules =
-      come-kinds (user ∷ edge ∷ formula ∷ demarcation ∷ hierarchy ∷ principal ∷ exclusion ∷ prerequisite ∷ method ∷ [])
-      (refl, omega arith, (refl, omega arith, (refl, omega arith, (refl, omega arith, (refl, omega arith, (refl, omega arith, (refl, omega arith, (refl, omega arith, (refl, omega arith, refl)))))))))
+      come-kinds (user ∷ edge ∷ formula ∷ demarcation ∷ hierarchy ∷ principal ∷ exclusion ∷ prerequisite ∷ method ∷ []) (
+        refl,
+        omega arith,
+        (
+          refl,
+          omega arith,
+          (
+            refl,
+            omega arith,
+            (refl, omega arith, (refl, omega arith, (refl, omega arith, (refl, omega arith, (refl, omega arith, (refl, omega arith, refl)))))),
+          ),
+        ),
+      )
       (omega arith) come-head

@@ -31,9 +31,18 @@ both-one x y e = rw (eq-eqb (cond x 1 0) (cond y 1 0) (ap (λ (b : Bool). cond b
 pub takes : (t : Reading) (k : Kind) (os : List ℕ) → Taken t k os → endWrong t k (numbers k os) ≡ false → lineRefusal t k os ≡ 0
 unfolding lineRefusal misplaced rowRefusal
 takes t k os w e =
-    let heads = both-one (isKind k head) (eqb (t .lines) 0) (same-test _ _ (λ h. eq-eqb _ _ (w .first-head h), λ z. w .head-first (eqb-true _ _ z))) in
-    rw (eq-eqb (kindOctet os) (code k) (w .kind), ne-eqb (t .last) 0xFF (w .ended), heads, le-ltb (code k) (t .last) (w .rises), eq-eqb (length (bodyOf os)) (total (widths k)) (w .sized))
-    (none-after (rowCauses k (count k (t .rules)) (t .rules) (numbers k os)) (cause wrongEnd (endWrong t k (numbers k os))) (w .passes) (rw e))
+    let heads = both-one (isKind k head) (eqb (t .lines) 0)
+    (same-test _ _ (λ h. eq-eqb _ _ (w .first-head h), λ z. w .head-first (eqb-true _ _ z))) in
+    rw (
+      eq-eqb (kindOctet os) (code k) (w .kind),
+      ne-eqb (t .last) 0xFF (w .ended),
+      heads,
+      le-ltb (code k) (t .last) (w .rises),
+      eq-eqb
+          (length (bodyOf os)) (total (widths k)) (w .sized),
+    )
+    (none-after (rowCauses k (count k (t .rules)) (t .rules) (numbers k os)) (cause wrongEnd (endWrong t k (numbers k os))) (w .passes)
+    (rw e))
 
 -- ---- reading from the top
 
@@ -51,14 +60,16 @@ totals-append [] ms = omega arith
 totals-append (os ∷ ls) ms = omega (arith, totals-append ls ms)
 
 -- one line: it is taken, and reading goes on after it
-read-one : (t : Reading) (k : Kind) (os : List ℕ) (rest : List Framed) → kindOctet os ≡ code k → lineRefusal t k os ≡ 0 → read t (octets os ∷ rest) ≡ read (afterLine t k os) rest
+read-one : (t : Reading) (k : Kind) (os : List ℕ) (rest : List Framed) → kindOctet os ≡ code k → lineRefusal t k os ≡ 0
+    → read t (octets os ∷ rest) ≡ read (afterLine t k os) rest
 unfolding read
 read-one t k os rest e f =
     let same : kindOf (kindOctet os) ≡ k = ap kindOf e ∙ kind-of-code k in
     ap (λ (j : Kind). cond (eqb (lineRefusal t j os) 0) (read (afterLine t j os) rest) (notLoaded (lineRefusal t j os) (t .lines + 1))) same
     ∙ rw f
 
-pub read-more : {ls : List (List ℕ)} {t : Reading} → Read ls t → (k : Kind) (os : List ℕ) → Taken t k os → endWrong t k (numbers k os) ≡ false
+pub read-more : {ls : List (List ℕ)} {t : Reading} → Read ls t → (k : Kind) (os : List ℕ) → Taken t k os
+    → endWrong t k (numbers k os) ≡ false
     → Read (ls ++ (os ∷ [])) (afterLine t k os)
 unfolding afterLine
 read-more {ls} {t} p k os w e =

@@ -40,7 +40,8 @@ memo-again r = refl
 sized-memo : (r : Record) → Sized r → Sized (withMemo r (emptied 0 0))
 unfolding withMemo
 sized-memo r s =
-    sized _ (s .long user) (s .long edge) (s .long formula) (s .long demarcation) (s .long hierarchy) (s .long principal) (s .long exclusion) (s .long prerequisite) (s .long method)
+    sized _ (s .long user) (s .long edge) (s .long formula) (s .long demarcation) (s .long hierarchy) (s .long principal)
+    (s .long exclusion) (s .long prerequisite) (s .long method)
 
 pub loadable-exactly : (r : Record) → Typed r → (loadable r ≡ true) ↔ ((text : List ℕ) × (load text ≡ loadsTo r))
 loadable-exactly r t = (λ e. (bundleOf r, write-load r t e), back)
@@ -49,7 +50,8 @@ loadable-exactly r t = (λ e. (bundleOf r, write-load r t e), back)
     back (text, e) =
         let rules : load text .rules ≡ withMemo r (emptied 0 0) = ap (λ (l : Loaded). l .rules) e in
         let loads = subst (λ (x : Record). loadable x ≡ true) rules (as-loaded text (ap (λ (l : Loaded). l .number) e) .loads) in
-        subst (λ (x : Record). loadable x ≡ true) (memo-again r) (loadable-memo (withMemo r (emptied 0 0)) (r .memo) (sized-memo r (t .sized)) loads)
+        subst (λ (x : Record). loadable x ≡ true) (memo-again r)
+        (loadable-memo (withMemo r (emptied 0 0)) (r .memo) (sized-memo r (t .sized)) loads)
 
 -- ---- what the writer's contract then says
 
@@ -71,10 +73,12 @@ module _ {r : Record} {before after : List ℕ} {w : Written} (c : Writes r befo
       let loads = success r before n in
       let long : w .length ≡ length (bundleOf r) = ap (λ (x : Written). x .length) (c .answers) ∙ rw loads refl in
       let bytes : after ≡ bundleOf r ++ drop (length (bundleOf r)) before = c .buffer ∙ rw n refl in
-      ap load ((λ j. take (long j) (bytes j)) ∙ take-append-seam (bundleOf r) (drop (length (bundleOf r)) before)) ∙ write-load r (c .typed) loads
+      ap load ((λ j. take (long j) (bytes j)) ∙ take-append-seam (bundleOf r) (drop (length (bundleOf r)) before))
+      ∙ write-load r (c .typed) loads
 
 -- LOAD THEN WRITE: what was loaded is written as the same bytes, where there is room for them
-pub loaded-written : (text : List ℕ) {before after : List ℕ} {w : Written} → load text .number ≡ 0 → Writes (load text .rules) before after w → length text ≤ length before
+pub loaded-written : (text : List ℕ) {before after : List ℕ} {w : Written} → load text .number ≡ 0
+    → Writes (load text .rules) before after w → length text ≤ length before
     → (w ≡ record { number = 0; length = length text }) × (after ≡ text ++ drop (length text) before)
 unfolding written lengthNeeded bufferAfter writeRefusal
 loaded-written text {before} e c room =

@@ -36,7 +36,8 @@ read-taken t os ls e₀ = go (eqb (lineRefusal t (kindOf (kindOctet os)) os) 0) 
   where
     go : (x : Bool) → eqb (lineRefusal t (kindOf (kindOctet os)) os) 0 ≡ x → (l : Loaded)
         → cond x l (notLoaded (lineRefusal t (kindOf (kindOctet os)) os) (t .lines + 1)) .number ≡ 0
-        → (lineRefusal t (kindOf (kindOctet os)) os ≡ 0) × (cond x l (notLoaded (lineRefusal t (kindOf (kindOctet os)) os) (t .lines + 1)) ≡ l)
+        → (lineRefusal t (kindOf (kindOctet os)) os ≡ 0)
+        × (cond x l (notLoaded (lineRefusal t (kindOf (kindOctet os)) os) (t .lines + 1)) ≡ l)
     go true p l e = (eqb-true _ _ p, refl)
     go false p l e = absurd (eqb-false _ _ p e)
 
@@ -46,14 +47,20 @@ unfolding afterLastLine
 end-taken t = go (eqb (t .last) 0xFF) (circular (rows hierarchy (t .rules)) || circular (rows prerequisite (t .rules))) refl
   where
     go : (x y : Bool) → eqb (t .last) 0xFF ≡ x
-        → cond (not x) (notLoaded wrongEnd (t .lines + 1)) (cond y (notLoaded refusals.circle (t .lines)) (record { number = 0; line = 0; rules = t .rules })) .number ≡ 0
-        → (t .last ≡ 0xFF) × (cond (not x) (notLoaded wrongEnd (t .lines + 1)) (cond y (notLoaded refusals.circle (t .lines)) (record { number = 0; line = 0; rules = t .rules })) .rules ≡ t .rules)
+        → cond (not x) (notLoaded wrongEnd (t .lines + 1))
+        (cond y (notLoaded refusals.circle (t .lines)) (record { number = 0; line = 0; rules = t .rules })) .number
+        ≡ 0
+        → (t .last ≡ 0xFF)
+        × (cond (not x) (notLoaded wrongEnd (t .lines + 1))
+        (cond y (notLoaded refusals.circle (t .lines)) (record { number = 0; line = 0; rules = t .rules })) .rules
+        ≡ t .rules)
     go false y p n = absurd (omega arith)
     go true true p n = absurd (omega arith)
     go true false p n = (eqb-true _ _ p, refl)
 
 -- a taken end line's numbers are the count of the lines before it, and their sum
-pub taken-end : (t : Reading) (os : List ℕ) → lineRefusal t end os ≡ 0 → (at (numbers end os) 0 ≡ t .lines) × (at (numbers end os) 1 ≡ t .sum)
+pub taken-end : (t : Reading) (os : List ℕ) → lineRefusal t end os ≡ 0
+    → (at (numbers end os) 0 ≡ t .lines) × (at (numbers end os) 1 ≡ t .sum)
 unfolding lineRefusal rowCauses inRange endWrong
 taken-end t os e =
     let v = numbers end os in
@@ -65,7 +72,9 @@ taken-end t os e =
 -- a head's version is 1
 pub taken-head : (n : ℕ) (r : Record) (v : List ℕ) → rowRefusal head n r v ≡ 0 → at v 0 ≡ 1
 unfolding rowRefusal rowCauses inRange
-taken-head n r v e = eqb-true (at v 0) 1 (and-cases (eqb (at v 0) 1) _ (not-false (inRange head n r v) (passed false (not (inRange head n r v)) false e .1)) .0)
+taken-head n r v e =
+    eqb-true (at v 0) 1
+    (and-cases (eqb (at v 0) 1) _ (not-false (inRange head n r v) (passed false (not (inRange head n r v)) false e .1)) .0)
 
 -- ---- all lines
 
@@ -73,7 +82,8 @@ read-framed : {ls : List Framed} → Lines ls → (t : Reading) → read t ls .n
 unfolding read
 read-framed none t e = refl
 read-framed (more (bad l h) p) t e = absurd (omega arith)
-read-framed (more {ls = ls} (good {os} f) p) t e = read-framed p (afterLine t (kindOf (kindOctet os)) os) (ap (λ (l : Loaded). l .number) (sym (read-taken t os ls e .1)) ∙ e)
+read-framed (more {ls = ls} (good {os} f) p) t e =
+    read-framed p (afterLine t (kindOf (kindOctet os)) os) (ap (λ (l : Loaded). l .number) (sym (read-taken t os ls e .1)) ∙ e)
 
 -- THE LAW: a text that loads is well framed
 pub load-framed : (t : List ℕ) → load t .number ≡ 0 → wellFramed t ≡ true

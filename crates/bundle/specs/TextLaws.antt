@@ -8,7 +8,8 @@ use Rattle.common.specs.Lists.{table}
 use Rattle.octets.specs.Line.{octets, total, digits, framed, lines, totals, textOf}
 use Rattle.octets.specs.LineLaws.{lines-none, lines-cons}
 use Rattle.octets.specs.WritingLaws.{Octets, framed-octets, length-framed, reads-back, rest-follows}
-use Rattle.policy.specs.Table.{Kind, head, user, edge, formula, demarcation, hierarchy, principal, exclusion, prerequisite, method, end, code}
+use Rattle.policy.specs.Table.{Kind, head, user, edge, formula, demarcation, hierarchy, principal, exclusion, prerequisite, method, end}
+use Rattle.policy.specs.Table.{code}
 use Rattle.reading.specs.Body.{widths}
 use Rattle.bundle.specs.Writing.{body, lineOctets}
 use Rattle.bundle.specs.BodyLaws.{length-body, octets-body}
@@ -74,7 +75,8 @@ lines-text (os ∷ ls) p =
     let bytes : textOf (os ∷ ls) ≡ digits (framed (n .kind) (n .body)) ++ (0x0A ∷ textOf ls) =
     append-assoc (digits os) (0x0A ∷ []) (textOf ls) ∙ ap (λ (m : List ℕ). digits m ++ (0x0A ∷ textOf ls)) (n .is) in
     let short : length (n .body) ≤ 255 = omega arith in
-    let some : 0 < length (digits (framed (n .kind) (n .body)) ++ (0x0A ∷ textOf ls)) = omega (arith, length-append (digits (framed (n .kind) (n .body))) (0x0A ∷ textOf ls)) in
+    let some : 0 < length (digits (framed (n .kind) (n .body)) ++ (0x0A ∷ textOf ls)) = omega
+    (arith, length-append (digits (framed (n .kind) (n .body))) (0x0A ∷ textOf ls)) in
     let first = reads-back (n .kind) (n .body) (textOf ls) (n .low) short (n .fit) ∙ ap octets (sym (n .is)) in
     let rest = ap lines (rest-follows (n .kind) (n .body) (textOf ls) (n .low) short (n .fit)) ∙ lines-text ls (p .1) in
     ap lines bytes ∙ lines-cons _ some ∙ (λ j. first j ∷ rest j)

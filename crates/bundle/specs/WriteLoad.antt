@@ -42,6 +42,7 @@ module _ (r : Record) (loads : loadable r ≡ true) where
       ∙ at-end r (emptied 0 0) loads (x .to) (endLine ls) (whole-all r (x .to .rules) loads (x .rules))
 
 -- THE THEOREM
-pub write-load : (r : Record) → Typed r → loadable r ≡ true → load (bundleOf r) ≡ record { number = 0; line = 0; rules = withMemo r (emptied 0 0) }
+pub write-load : (r : Record) → Typed r → loadable r ≡ true
+    → load (bundleOf r) ≡ record { number = 0; line = 0; rules = withMemo r (emptied 0 0) }
 unfolding bundleOf
 write-load r t loads = text-loads r loads (ruleLines kinds r) (rule-lines r kinds) (rules-few r loads kinds) (come-rules r t loads)

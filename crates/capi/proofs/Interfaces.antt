@@ -20,9 +20,13 @@ module _ {l m : Loaded} (same : l ≡ m) (buffer : List ℕ) where
   unfolding rewriteBuffer
   rewrite-left h = sym (rw (ne-eqb (l .number) 0 h) refl) ∙ ap (λ (x : Loaded). rewriteBuffer x buffer) same
 
-  pub rewrite-written : l .number ≡ 0 → {w : Written} → w ≡ written (l .rules) buffer → packed (w .number) (w .length) ≡ rewriteValue m buffer
+  pub rewrite-written : l .number ≡ 0 → {w : Written} → w ≡ written (l .rules) buffer
+      → packed (w .number) (w .length) ≡ rewriteValue m buffer
   unfolding rewriteValue
-  rewrite-written z e = ap (λ (x : Written). packed (x .number) (x .length)) e ∙ sym (rw (eq-eqb (l .number) 0 z) refl) ∙ ap (λ (x : Loaded). rewriteValue x buffer) same
+  rewrite-written z e =
+      ap (λ (x : Written). packed (x .number) (x .length)) e
+      ∙ sym (rw (eq-eqb (l .number) 0 z) refl)
+      ∙ ap (λ (x : Loaded). rewriteValue x buffer) same
 
   pub rewrite-buffer : l .number ≡ 0 → {after : List ℕ} → after ≡ bufferAfter (l .rules) buffer → after ≡ rewriteBuffer m buffer
   unfolding rewriteBuffer
@@ -41,6 +45,7 @@ module _ {l m : Loaded} (same : l ≡ m) (calls buffer : List ℕ) where
   unfolding replayValue
   replay-answered z e = ap (packed 0) e ∙ sym (rw (eq-eqb (l .number) 0 z) refl) ∙ ap (λ (x : Loaded). replayValue x calls buffer) same
 
-  pub replay-buffer : l .number ≡ 0 → {after : List ℕ} → after ≡ replay.bufferAfter (l .rules) calls buffer → after ≡ replayBuffer m calls buffer
+  pub replay-buffer : l .number ≡ 0 → {after : List ℕ} → after ≡ replay.bufferAfter (l .rules) calls buffer
+      → after ≡ replayBuffer m calls buffer
   unfolding replayBuffer
   replay-buffer z e = e ∙ sym (rw (eq-eqb (l .number) 0 z) refl) ∙ ap (λ (x : Loaded). replayBuffer x calls buffer) same

@@ -13,7 +13,8 @@ packed number value = number * 4294967296 + value % 4294967296
 
 -- loads and writes. A refused bundle: its number and line, and the buffer as it was. Else the writer's number and length
 unfoldable pub rewriteValue : Loaded → List ℕ → ℕ
-rewriteValue l buffer = cond (eqb (l .number) 0) (packed (written (l .rules) buffer .number) (written (l .rules) buffer .length)) (packed (l .number) (l .line))
+rewriteValue l buffer =
+    cond (eqb (l .number) 0) (packed (written (l .rules) buffer .number) (written (l .rules) buffer .length)) (packed (l .number) (l .line))
 
 unfoldable pub rewriteBuffer : Loaded → List ℕ → List ℕ
 rewriteBuffer l buffer = cond (eqb (l .number) 0) (bufferAfter (l .rules) buffer) buffer

@@ -15,7 +15,8 @@ fn packed(number: u8, value: usize) -> u64
 // Loads a bundle and writes it again into `out`. A refused bundle: its number and line. Else the writer's number and length.
 #[no_mangle]
 pub extern "C" fn access_rewrite(bundle: &[u8], out: &mut [u8]) -> u64
-    ensures { λ r. ⌜ (r ≡ rewriteValue (load (now (bundle .entry))) (now (out .entry))) × (now (out .exit) ≡ rewriteBuffer (load (now (bundle .entry))) (now (out .entry))) ⌝ }
+    ensures { λ r. ⌜ (r ≡ rewriteValue (load (now (bundle .entry))) (now (out .entry)))
+        × (now (out .exit) ≡ rewriteBuffer (load (now (bundle .entry))) (now (out .entry))) ⌝ }
 {
     let loaded = bundle::load(bundle);
     if loaded.number != 0 {
@@ -30,7 +31,8 @@ pub extern "C" fn access_rewrite(bundle: &[u8], out: &mut [u8]) -> u64
 // Else the count of answers.
 #[no_mangle]
 pub extern "C" fn access_replay(bundle: &[u8], calls: &[u8], answers: &mut [u8]) -> u64
-    ensures { λ r. ⌜ (r ≡ replayValue (load (now (bundle .entry))) (now (calls .entry)) (now (answers .entry))) × (now (answers .exit) ≡ replayBuffer (load (now (bundle .entry))) (now (calls .entry)) (now (answers .entry))) ⌝ }
+    ensures { λ r. ⌜ (r ≡ replayValue (load (now (bundle .entry))) (now (calls .entry)) (now (answers .entry)))
+        × (now (answers .exit) ≡ replayBuffer (load (now (bundle .entry))) (now (calls .entry)) (now (answers .entry))) ⌝ }
 {
     let loaded = bundle::load(bundle);
     if loaded.number != 0 {

@@ -28,7 +28,8 @@ module _ {A : Type 0} (p : A → Bool) (f : ℕ → A) where
 
   pub every-table : (n : ℕ) → every p (table n f) ≡ true → (i : ℕ) → i < n → p (f i) ≡ true
   every-table n e i l =
-      subst (λ (x : A). p x ≡ true) (table-at n f i (f i) l) (every-at p (table n f) i (f i) e (subst (λ (k : ℕ). i < k) (sym (length-table n f)) l))
+      subst (λ (x : A). p x ≡ true) (table-at n f i (f i) l)
+      (every-at p (table n f) i (f i) e (subst (λ (k : ℕ). i < k) (sym (length-table n f)) l))
 
   pub table-every : (n : ℕ) → ((i : ℕ) → i < n → p (f i) ≡ true) → every p (table n f) ≡ true
   table-every zero h = refl
@@ -44,7 +45,8 @@ module _ (p q : ℕ → Bool) where
   any-those [] = refl
   any-those (x ∷ l) = go (q x) (any-those l)
     where
-      go : (b : Bool) → any p (those q l) ≡ any (λ y. q y && p y) l → any p (cond b (x ∷ those q l) (those q l)) ≡ ((b && p x) || any (λ y. q y && p y) l)
+      go : (b : Bool) → any p (those q l) ≡ any (λ y. q y && p y) l
+          → any p (cond b (x ∷ those q l) (those q l)) ≡ ((b && p x) || any (λ y. q y && p y) l)
       go true e = ap (λ (t : Bool). p x || t) e
       go false e = e
 
@@ -59,7 +61,8 @@ module _ (p q : ℕ → Bool) where
 
   pub some-of : (n : ℕ) → (any p (those q (below n)) ≡ true ↔ ((i : ℕ) × (i < n) × (q i ≡ true) × (p i ≡ true)))
   some-of n = (
-    λ e. let (i, l, t) = any-table (λ x. q x && p x) (λ x. x) n (sym (any-those (below n)) ∙ e) in let (u, v) = and-cases (q i) (p i) t in (i, l, u, v),
+    λ e. let (i, l, t) =
+        any-table (λ x. q x && p x) (λ x. x) n (sym (any-those (below n)) ∙ e) in let (u, v) = and-cases (q i) (p i) t in (i, l, u, v),
     λ (i, l, t, u). any-those (below n) ∙ table-any (λ x. q x && p x) (λ x. x) n i l (and-both (q i) (p i) t u),
   )
 

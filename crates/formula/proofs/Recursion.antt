@@ -28,13 +28,16 @@ turned (suc n) labels from to a p v =
 module _ (fs : Formulas) (c : Context) (f : ℕ) (asked : List Bool) {r : List Bool} where
   -- a formula at or above n is true nowhere; one below n is what its parts make it
   pub none-below : (n : ℕ) → n ≤ f → ((v : ℕ) → isIn r v ≡ false) → Among asked (trueBelow fs c n f) r
-  none-below n l h = record { members = λ v. h v ∙ sym (ap (λ (b : Bool). isIn asked v && b) (below-out fs c n f v l) ∙ and-false (isIn asked v)) }
+  none-below n l h =
+      record { members = λ v. h v ∙ sym (ap (λ (b : Bool). isIn asked v && b) (below-out fs c n f v l) ∙ and-false (isIn asked v)) }
 
   pub true-below : (n : ℕ) → f < n → Among asked (formulaAt fs c f) r → Among asked (trueBelow fs c n f) r
   unfolding trueBelow formulaAt
   true-below n l h =
       record {
-        members = λ v. h .members v ∙ ap (λ (b : Bool). isIn asked v && b) (sym (below-in fs c (suc f) n f v (omega arith) l ∙ rw (eq-eqb f f refl)));
+        members =
+            λ v. h .members v ∙ ap (λ (b : Bool). isIn asked v && b)
+            (sym (below-in fs c (suc f) n f v (omega arith) l ∙ rw (eq-eqb f f refl)));
       }
 
   -- formula f by the number k of its op
@@ -50,7 +53,8 @@ module _ (fs : Formulas) (c : Context) (f : ℕ) (asked : List Bool) {r : List B
       }
 
   -- t and u are the answers for the parts a and b
-  pub negated : {a : ℕ} {t : List Bool} → at (fs .ops) f ≡ 4 → a ≡ at (fs .lefts) f → Among asked (trueBelow fs c f a) t → Among asked (λ v. not (isIn t v)) r
+  pub negated : {a : ℕ} {t : List Bool} → at (fs .ops) f ≡ 4 → a ≡ at (fs .lefts) f → Among asked (trueBelow fs c f a) t
+      → Among asked (λ v. not (isIn t v)) r
       → Among asked (formulaAt fs c f) r
   unfolding meaning
   negated op ea et er =
@@ -87,7 +91,8 @@ module _ (fs : Formulas) (c : Context) (f : ℕ) (asked : List Bool) {r : List B
         members =
             λ v.
             er v
-            ∙ rw (et .members v, eu .members v, ← and-or-distrib-left) (λ j. isIn asked v && (trueBelow fs c f (ea j) v || trueBelow fs c f (eb j) v));
+            ∙ rw (et .members v, eu .members v, ← and-or-distrib-left)
+            (λ j. isIn asked v && (trueBelow fs c f (ea j) v || trueBelow fs c f (eb j) v));
       }
       )
 
@@ -152,8 +157,10 @@ scanned es a b Q {asked} {reached} {found} e reaches finds h = record { members 
           let (e, (i, p)) = some-edge _ es t in
           let (l, q) = and-cases (eqb (at e 0) a) _ p in
           let (m, q) = and-cases (eqb (at e 1) v) _ q in
-          let ends = and-both (eqb (at e 2) (at e 2)) (isIn asked (at e 1)) (eq-eqb (at e 2) (at e 2) refl) (ap (isIn asked) (eqb-true (at e 1) v m) ∙ x) in
-          let reached = edge-some (λ d. eqb (at d 0) a && (eqb (at d 2) (at e 2) && isIn asked (at d 1))) es e i (and-both (eqb (at e 0) a) _ l ends) in
+          let ends = and-both (eqb (at e 2) (at e 2)) (isIn asked (at e 1)) (eq-eqb (at e 2) (at e 2) refl)
+          (ap (isIn asked) (eqb-true (at e 1) v m) ∙ x) in
+          let reached = edge-some (λ d. eqb (at d 0) a && (eqb (at d 2) (at e 2) && isIn asked (at d 1))) es e i
+          (and-both (eqb (at e 0) a) _ l ends) in
           let q = is-found (at e 2) ∙ and-both (leads es 2 1 a (isIn asked) (at e 2)) (Q b (at e 2)) reached q in
           edge-some _ es e i (and-both (eqb (at e 0) a) _ l (and-both (eqb (at e 1) v) (isIn found (at e 2)) m q))),
     )

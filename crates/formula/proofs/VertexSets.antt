@@ -74,14 +74,18 @@ pub at-asked : {asked r : List Bool} {p : ℕ → Bool} {v w : ℕ} → Among as
 at-asked {p = p} {v} h e t = h .members v ∙ (λ j. t j && p (e j))
 
 -- ---- passes over the edges
-module _ (labels starts ends : List ℕ) (label : ℕ) (asked : List Bool) (r : List Bool) (i x y : ℕ) (ex : x ≡ at starts i) (ey : y ≡ at ends i) (v : ℕ) where
+module _ (labels starts ends : List ℕ) (label : ℕ) (asked : List Bool) (r : List Bool) (i x y : ℕ) (ex : x ≡ at starts i)
+    (ey : y ≡ at ends i) (v : ℕ) where
   -- one edge more
   edge-more : (q : List ℕ → Bool)
-      → any q (edgesIn (i + 1) labels starts ends) ≡ (any q (edgesIn i labels starts ends) || q (at labels i ∷ at starts i ∷ at ends i ∷ []))
-  edge-more q = ap (λ (n : ℕ). any q (edgesIn n labels starts ends)) (add-one i) ∙ any-more q i (λ j. at labels j ∷ at starts j ∷ at ends j ∷ [])
+      → any q (edgesIn (i + 1) labels starts ends)
+      ≡ (any q (edgesIn i labels starts ends) || q (at labels i ∷ at starts i ∷ at ends i ∷ []))
+  edge-more q =
+      ap (λ (n : ℕ). any q (edgesIn n labels starts ends)) (add-one i) ∙ any-more q i (λ j. at labels j ∷ at starts j ∷ at ends j ∷ [])
 
   pub ends-more : y < length r → isIn r v ≡ leads (edgesIn i labels starts ends) 2 1 label (isIn asked) v
-      → isIn (set r y (isIn r y || (eqb (at labels i) label && isIn asked x))) v ≡ leads (edgesIn (i + 1) labels starts ends) 2 1 label (isIn asked) v
+      → isIn (set r y (isIn r y || (eqb (at labels i) label && isIn asked x))) v
+      ≡ leads (edgesIn (i + 1) labels starts ends) 2 1 label (isIn asked) v
   ends-more h ih =
       joined r y (eqb (at labels i) label && isIn asked x) v h
       ∙ ap₂ _||_ ih (turn (eqb (at labels i) label) (isIn asked x) (eqb y v) ∙ rw (ex, ey))
@@ -92,7 +96,8 @@ module _ (labels starts ends : List ℕ) (label : ℕ) (asked : List Bool) (r : 
       turn true false e = sym (and-false e)
       turn false a e = refl
 
-  pub starts-more : (found : List Bool) → x < length r → isIn r v ≡ (isIn asked v && leads (edgesIn i labels starts ends) 1 2 label (isIn found) v)
+  pub starts-more : (found : List Bool) → x < length r
+      → isIn r v ≡ (isIn asked v && leads (edgesIn i labels starts ends) 1 2 label (isIn found) v)
       → isIn (set r x (isIn r x || ((eqb (at labels i) label && isIn asked x) && isIn found y))) v
       ≡ (isIn asked v && leads (edgesIn (i + 1) labels starts ends) 1 2 label (isIn found) v)
   starts-more found h ih =

@@ -18,7 +18,8 @@ pub data Distinct : Book → Type 0 where
   none : Distinct []
   more : {e : List ℕ} {book : Book} → holdsEdge book e ≡ false → Distinct book → Distinct (e ∷ book)
 
--- the record r is loadable, holds the edges of the book, each once, and all else as the bundle's record b holdsEdge it (memo aside); what its memo knows is true
+-- the record r is loadable, holds the edges of the book, each once, and all else as the bundle's record b has it (memo
+-- aside); what its memo knows is true
 pub record Agrees (b : Record) (book : Book) (r : Record) : Type 0 where
   pub loads : loadable r ≡ true
   pub edges : (e : List ℕ) → edgeIn (rows edge r) e ≡ holdsEdge book e

@@ -26,7 +26,7 @@ use Rattle.history.specs.Book.{Book, plain, askRefusal, verdict, enabled
 use Rattle.history.specs.Agrees.{Agrees}
 use Rattle.history.specs.SizedLaws.{sized-memo}
 
--- ---- what stays as the bundle holdsEdge it
+-- ---- what stays as the bundle has it
 
 module _ (r b : Record) (rest : changed r [] (emptied 0 0) ≡ changed b [] (emptied 0 0)) where
   same-refusal : (q : Question) → askRefusal r q ≡ askRefusal b q
@@ -48,7 +48,8 @@ module _ (b : Record) (book : Book) (r : Record) (h : Agrees b book r) where
   pub refusal-is : (q : Question) → questionRefusal r q ≡ askRefusal b q
   unfolding questionRefusal
   refusal-is q =
-      (λ i. first (cause notLoadable (not (h .loads i)) ∷ cause noMethod (leb (r .«method_count») (q .method)) ∷ cause noObject (leb (r .objects) (q .object)) ∷ cause notUser (not (isUser r (q .requestor))) ∷ []))
+      (λ i. first (cause notLoadable (not (h .loads i)) ∷ cause noMethod (leb (r .«method_count») (q .method))
+      ∷ cause noObject (leb (r .objects) (q .object)) ∷ cause notUser (not (isUser r (q .requestor))) ∷ []))
       ∙ same-refusal r b (h .rest) q
 
   pub enabled-is : (q : Question) (p : ℕ) → isEnabled r q p ≡ enabledIn b book q p
@@ -95,7 +96,8 @@ module _ (b : Record) (book : Book) (r : Record) (h : Agrees b book r) where
     pub asked-answer : numberAndSet (question r q) ≡ ask b book q
     asked-answer = go (eqb (askRefusal b q) 0) refl
       where
-        go : (v : Bool) → eqb (askRefusal b q) 0 ≡ v → numberAndSet (question r q) ≡ cond v (verdict (least b (q .method) (enabledIn b book q))) (plain (askRefusal b q))
+        go : (v : Bool) → eqb (askRefusal b q) 0 ≡ v
+            → numberAndSet (question r q) ≡ cond v (verdict (least b (q .method) (enabledIn b book q))) (plain (askRefusal b q))
         go true e = least-answer-is q (question r q) (when (refusal-is q ∙ eqb-true (askRefusal b q) 0 e))
         go false e = ap numberAndSet (other (askRefusal b q) (sym (refusal-is q)) (eqb-false (askRefusal b q) 0 e))
 
@@ -104,7 +106,9 @@ module _ (b : Record) (book : Book) (r : Record) (h : Agrees b book r) where
       where
         go : (v : Bool) → eqb (questionRefusal r q) 0 ≡ v → Agrees b book (question r q .rules)
         go true e = left-agrees q (question r q) (when (eqb-true (questionRefusal r q) 0 e))
-        go false e = subst (λ (a : Answer). Agrees b book (a .rules)) (sym (other (questionRefusal r q) refl (eqb-false (questionRefusal r q) 0 e))) h
+        go false e =
+            subst (λ (a : Answer). Agrees b book (a .rules)) (sym (other (questionRefusal r q) refl (eqb-false (questionRefusal r q) 0 e)))
+            h
 
   -- ---- eager and lazy
 

@@ -40,14 +40,16 @@ Book = List (List ℕ)
 abbrev pub holdsEdge : Book → List ℕ → Bool
 holdsEdge book e = any (same e) book
 
--- add: 10 the label is above 15 or an object isn't below N; 11 the edge is in the book; 13 the book holdsEdge 512 edges
+-- add: 10 the label is above 15 or an object isn't below N; 11 the edge is in the book; 13 the book has 512 edges
 abbrev pub addRefusal : Record → Book → ℕ → ℕ → ℕ → ℕ
 addRefusal b book l x y =
-    first (cause edgeOutOfRange (not (edgeInRange (b .objects) l x y)) ∷ cause edgePresent (holdsEdge book (l ∷ x ∷ y ∷ [])) ∷ cause edgesFull (leb 512 (length book)) ∷ [])
+    first (cause edgeOutOfRange (not (edgeInRange (b .objects) l x y)) ∷ cause edgePresent (holdsEdge book (l ∷ x ∷ y ∷ []))
+    ∷ cause edgesFull (leb 512 (length book)) ∷ [])
 
 -- remove: 10; 12 the edge isn't in the book
 abbrev pub removeRefusal : Record → Book → ℕ → ℕ → ℕ → ℕ
-removeRefusal b book l x y = first (cause edgeOutOfRange (not (edgeInRange (b .objects) l x y)) ∷ cause edgeAbsent (not (holdsEdge book (l ∷ x ∷ y ∷ []))) ∷ [])
+removeRefusal b book l x y =
+    first (cause edgeOutOfRange (not (edgeInRange (b .objects) l x y)) ∷ cause edgeAbsent (not (holdsEdge book (l ∷ x ∷ y ∷ []))) ∷ [])
 
 abbrev pub askRefusal : Record → Question → ℕ
 askRefusal b q =

@@ -1,6 +1,6 @@
--- Demand 3, word by word. A record just loaded from a bundle, and any list of edge additions, edge removals, eager and lazy questions, refused ones included:
--- each call gets the record that the calls before it left. Beside the engine goes the edge book, which is given the bundle's record and each call's kind and
--- arguments, and nothing that the engine answers or holds.
+-- Demand 3, word by word. A record just loaded from a bundle, and any list of edge additions, edge removals, eager and lazy
+-- questions, refused ones included: each call gets the record that the calls before it left. Beside the engine goes the edge book,
+-- which is given the bundle's record and each call's kind and arguments, and nothing that the engine answers or holds.
 use Prim.Native.Nat.{ℕ, _^_, _<_}
 use mathlib.Core.Path.{_≡_}
 use mathlib.Core.Logic.{_↔_, _≢_}
@@ -35,19 +35,22 @@ pub record Known (b : Record) (q : Question) : Type 0 where
   pub object : q .object < b .objects
   pub user : isUser b (q .requestor) ≡ true
 
--- "[a] set of grounds enabled in the graph of that book at that point [that] is consistent and meets the guard": the principals that are members of c
+-- "[a] set of grounds enabled in the graph of that book at that point [that] is consistent and meets the guard": the principals
+-- that are members of c
 pub record Satisfies (b : Record) (book : Book) (q : Question) (c : ℕ) : Type 0 where
   pub grounds : c < 2 ^ (b .«principal_count»)
   pub enabled : (p : ℕ) → In p c → enabledIn b book q p ≡ true
   pub consistent : consistent b c ≡ true
   pub guard : meets b (q .method) (members b c) ≡ true
 
--- "Each question with a known method, object and user is denied exactly when no set .. will do. Otherwise it returns such a set, the least in the documents' order:
--- every other such set holdsEdge at least as many members", and of those with as many none holdsEdge a smaller number (`Before`). A question that is refused changes nothing.
+-- "Each question with a known method, object and user is denied exactly when no set .. will do. Otherwise it returns such a set,
+-- the least in the documents' order: every other such set has at least as many members", and of those with as many none
+-- has a smaller number (`Before`). A question that is refused changes nothing.
 pub record QuestionHolds (b : Record) (book : Book) (q : Question) (r : Record) (a : Answer) : Type 0 where
   pub denied : Known b q → ((a .number ≡ noSet) ↔ ((c : ℕ) → Satisfies b book q c → ⊥))
   pub empty : Known b q → a .number ≡ noSet → a .set ≡ 0
-  pub granted : Known b q → a .number ≢ noSet → (a .number ≡ 0) × Satisfies b book q (a .set) × ((c : ℕ) → Satisfies b book q c → Before (a .set) c)
+  pub granted : Known b q → a .number ≢ noSet
+      → (a .number ≡ 0) × Satisfies b book q (a .set) × ((c : ℕ) → Satisfies b book q c → Before (a .set) c)
   pub refused : (Known b q → ⊥) → (a .rules ≡ r) × (a .set ≡ 0) × (a .number ≢ 0)
 
 -- "Eager and lazy forms of one question, put at the same point, return the same set."
@@ -58,7 +61,8 @@ pub record SameSet (r : Record) (q : Question) : Type 0 where
 -- what is said of one call, put to the record r beside the book
 abbrev pub CallHolds : Record → Book → Record → Call → Type 0
 CallHolds b book r (add l x y) = EditHolds book (bookAfterCall b book (add l x y)) (added r l x y .number) r (added r l x y .rules)
-CallHolds b book r (remove l x y) = EditHolds book (bookAfterCall b book (remove l x y)) (removed r l x y .number) r (removed r l x y .rules)
+CallHolds b book r (remove l x y) =
+    EditHolds book (bookAfterCall b book (remove l x y)) (removed r l x y .number) r (removed r l x y .rules)
 CallHolds b book r (askEagerly q) = QuestionHolds b book q r (eager r q) × SameSet r q
 CallHolds b book r (askLazily q) = QuestionHolds b book q r (lazy r q) × SameSet r q
 
@@ -69,4 +73,6 @@ ListHolds b book r (c ∷ cs) = CallHolds b book r c × ListHolds b (bookAfterCa
 
 -- of every text that loads, and every list of calls; the book starts with the edges of the edge lines
 abbrev pub Demand3 : Type 0
-Demand3 = (text : List ℕ) → load text .number ≡ 0 → (calls : List Call) → ListHolds (load text .rules) (rows edge (load text .rules)) (load text .rules) calls
+Demand3 =
+    (text : List ℕ) → load text .number ≡ 0 → (calls : List Call)
+    → ListHolds (load text .rules) (rows edge (load text .rules)) (load text .rules) calls

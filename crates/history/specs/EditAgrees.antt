@@ -62,7 +62,8 @@ module _ (e : List ℕ) where
   inserted-holds d [] = refl
   inserted-holds d (f ∷ es) = go (ltb (key edge e) (key edge f)) (inserted-holds d es)
     where
-      go : (b : Bool) → edgeIn (inserted e es) d ≡ (same d e || edgeIn es d) → edgeIn (cond b (e ∷ f ∷ es) (f ∷ inserted e es)) d ≡ (same d e || (same d f || edgeIn es d))
+      go : (b : Bool) → edgeIn (inserted e es) d ≡ (same d e || edgeIn es d)
+          → edgeIn (cond b (e ∷ f ∷ es) (f ∷ inserted e es)) d ≡ (same d e || (same d f || edgeIn es d))
       go true h = refl
       go false h = swap (same d e) (same d f) _ _ h
 
@@ -94,7 +95,8 @@ module _ (e : List ℕ) where
 
 -- ---- the edges of a loadable record
 
-rising-absent : {n least : ℕ} (l x y : ℕ) {es : List (List ℕ)} → Rising n least es → edgeKey l x y < least → edgeIn es (l ∷ x ∷ y ∷ []) ≡ false
+rising-absent : {n least : ℕ} (l x y : ℕ) {es : List (List ℕ)} → Rising n least es → edgeKey l x y < least
+    → edgeIn es (l ∷ x ∷ y ∷ []) ≡ false
 rising-absent l x y rising.none h = refl
 rising-absent l x y (rising.more {l = l₂} {x = x₂} {y = y₂} k s t) h =
     rw (key-other l x y l₂ x₂ y₂ (λ q. let z : ⊥ = omega arith in z)) (rising-absent l x y t (omega arith))
@@ -144,12 +146,14 @@ module _ (r : Record) (n : ℕ) (es : List (List ℕ)) (m : Memo) where
   edited-number : edited r n es m .number ≡ n
   edited-number = go (eqb n 0) refl
     where
-      go : (v : Bool) → eqb n 0 ≡ v → (cond {A = Edited} v (record { number = 0; rules = changed r es m }) (record { number = n; rules = r })) .number ≡ n
+      go : (v : Bool) → eqb n 0 ≡ v
+          → (cond {A = Edited} v (record { number = 0; rules = changed r es m }) (record { number = n; rules = r })) .number ≡ n
       go true e = sym (eqb-true n 0 e)
       go false e = refl
 
   edited-refused : eqb n 0 ≡ false → edited r n es m .rules ≡ r
-  edited-refused e = ap (λ (v : Bool). (cond {A = Edited} v (record { number = 0; rules = changed r es m }) (record { number = n; rules = r })) .rules) e
+  edited-refused e =
+      ap (λ (v : Bool). (cond {A = Edited} v (record { number = 0; rules = changed r es m }) (record { number = n; rules = r })) .rules) e
 
 module _ (b : Record) (book : Book) (r : Record) (h : Agrees b book r) where
   objects : r .objects ≡ b .objects
@@ -181,7 +185,8 @@ module _ (b : Record) (book : Book) (r : Record) (h : Agrees b book r) where
 
     add-refusal : edits.addRefusal r l x y ≡ addRefusal b book l x y
     add-refusal =
-        λ j. first (cause notLoadable (not (h .loads j)) ∷ cause edgeOutOfRange (not (edgeInRange (objects j) l x y)) ∷ cause edgePresent (h .edges it j) ∷ cause edgesFull (leb 512 (h .count j)) ∷ [])
+        λ j. first (cause notLoadable (not (h .loads j)) ∷ cause edgeOutOfRange (not (edgeInRange (objects j) l x y))
+        ∷ cause edgePresent (h .edges it j) ∷ cause edgesFull (leb 512 (h .count j)) ∷ [])
 
     pub add-number : added r l x y .number ≡ addRefusal b book l x y
     unfolding added
@@ -214,7 +219,8 @@ module _ (b : Record) (book : Book) (r : Record) (h : Agrees b book r) where
 
     remove-refusal : edits.removeRefusal r l x y ≡ removeRefusal b book l x y
     remove-refusal =
-        λ j. first (cause notLoadable (not (h .loads j)) ∷ cause edgeOutOfRange (not (edgeInRange (objects j) l x y)) ∷ cause edgeAbsent (not (h .edges it j)) ∷ [])
+        λ j. first (cause notLoadable (not (h .loads j)) ∷ cause edgeOutOfRange (not (edgeInRange (objects j) l x y))
+        ∷ cause edgeAbsent (not (h .edges it j)) ∷ [])
 
     pub remove-number : removed r l x y .number ≡ removeRefusal b book l x y
     unfolding removed

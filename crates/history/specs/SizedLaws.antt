@@ -7,7 +7,8 @@ use lib.ListN.{length, replicate, length-append, length-map, length-replicate}
 use Rattle.common.specs.Lists.{at}
 use Rattle.policy.specs.declared.Record.{Record}
 use Rattle.policy.specs.declared.Memo.{Memo}
-use Rattle.policy.specs.Table.{user, edge, formula, demarcation, hierarchy, principal, exclusion, prerequisite, method, column, changed, withMemo}
+use Rattle.policy.specs.Table.{user, edge, formula, demarcation, hierarchy, principal, exclusion, prerequisite, method, column, changed}
+use Rattle.policy.specs.Table.{withMemo}
 use Rattle.policy.specs.TableLaws.{Sized, sized}
 
 column-long : (j : ℕ) (es : List (List ℕ)) → length es ≤ 512 → length (column j es) ≡ 512
@@ -20,10 +21,12 @@ column-long j es few =
 pub sized-changed : (r : Record) (es : List (List ℕ)) (m : Memo) → length es ≤ 512 → Sized r → Sized (changed r es m)
 unfolding changed
 sized-changed r es m few s =
-    sized _ (s .long user) (column-long 0 es few, (column-long 1 es few, (column-long 2 es few, tt))) (s .long formula) (s .long demarcation) (s .long hierarchy) (s .long principal)
+    sized _ (s .long user) (column-long 0 es few, (column-long 1 es few, (column-long 2 es few, tt))) (s .long formula)
+    (s .long demarcation) (s .long hierarchy) (s .long principal)
     (s .long exclusion) (s .long prerequisite) (s .long method)
 
 pub sized-memo : (r : Record) (m : Memo) → Sized r → Sized (withMemo r m)
 unfolding withMemo
 sized-memo r m s =
-    sized _ (s .long user) (s .long edge) (s .long formula) (s .long demarcation) (s .long hierarchy) (s .long principal) (s .long exclusion) (s .long prerequisite) (s .long method)
+    sized _ (s .long user) (s .long edge) (s .long formula) (s .long demarcation) (s .long hierarchy) (s .long principal)
+    (s .long exclusion) (s .long prerequisite) (s .long method)

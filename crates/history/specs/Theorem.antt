@@ -33,16 +33,19 @@ use Rattle.access.specs.Access.{refused, eager, lazy}
 use Rattle.access.specs.CorrectMemo.{CorrectMemo}
 use Rattle.memo.specs.WalkLaws.{MemoLengths}
 use Rattle.search.specs.Search.{Before}
-use Rattle.history.specs.Book.{Call, add, remove, askEagerly, askLazily, Book, BookAnswer, holdsEdge, addRefusal, removeRefusal, askRefusal, verdict, enabledIn, ask, bookAfterCall, numberAndSet, engineLeaves}
+use Rattle.history.specs.Book.{Call, add, remove, askEagerly, askLazily, Book, BookAnswer, holdsEdge, addRefusal, removeRefusal}
+use Rattle.history.specs.Book.{askRefusal, verdict, enabledIn, ask, bookAfterCall, numberAndSet, engineLeaves}
 use Rattle.history.specs.Agrees.{Agrees}
-use Rattle.history.specs.EditAgrees.{distinct-rows, add-number, add-agrees, add-refused, remove-number, remove-agrees, remove-refused, emptied-lengths, emptied-correct, without-holds}
+use Rattle.history.specs.EditAgrees.{distinct-rows, add-number, add-agrees, add-refused, remove-number, remove-agrees, remove-refused}
+use Rattle.history.specs.EditAgrees.{emptied-lengths, emptied-correct, without-holds}
 use Rattle.history.specs.AskAgrees.{refusal-is, eager-answer, eager-agrees, eager-refused, lazy-answer, lazy-agrees, lazy-refused}
 use Rattle.history.specs.Demand3.{Changes, EditHolds, Known, Satisfies, QuestionHolds, SameSet, CallHolds, ListHolds, Demand3}
 
 -- ---- edits
 
 -- an edit of a book that is refused leaves it, and one that is accepted changes it
-edit-holds : (before after : Book) (n number : ℕ) (r left : Record) → number ≡ n → (n ≡ 0 → Changes before after) → (n ≢ 0 → after ≡ before) → (n ≢ 0 → left ≡ r)
+edit-holds : (before after : Book) (n number : ℕ) (r left : Record) → number ≡ n → (n ≡ 0 → Changes before after) → (n ≢ 0 → after ≡ before)
+    → (n ≢ 0 → left ≡ r)
     → EditHolds before after number r left
 edit-holds before after n number r left e changes stays keeps =
     record {
@@ -80,12 +83,15 @@ module _ (b : Record) (book : Book) (r : Record) (h : Agrees b book r) where
     add-holds : CallHolds b book r (add l x y)
     unfolding bookAfterCall
     add-holds =
-        edit-holds book (cond (eqb (addRefusal b book l x y) 0) (it ∷ book) book) (addRefusal b book l x y) (added r l x y .number) r (added r l x y .rules) (add-number b book r h l x y)
+        edit-holds book (cond (eqb (addRefusal b book l x y) 0) (it ∷ book) book) (addRefusal b book l x y) (added r l x y .number) r
+        (added r l x y .rules) (add-number b book r h l x y)
         (λ z. (
           it,
           λ e.
-              let no : holdsEdge book it ≡ false = absent (not (edgeInRange (b .objects) l x y)) (holdsEdge book it) (leb 512 (length book)) z in
-              let now : holdsEdge (cond (eqb (addRefusal b book l x y) 0) (it ∷ book) book) it ≡ true = rw (eq-eqb (addRefusal b book l x y) 0 z) (or-left (same it it) (holdsEdge book it) (same-self it)) in
+              let no : holdsEdge book it ≡ false = absent (not (edgeInRange (b .objects) l x y)) (holdsEdge book it) (leb 512 (length book))
+              z in
+              let now : holdsEdge (cond (eqb (addRefusal b book l x y) 0) (it ∷ book) book) it ≡ true = rw
+              (eq-eqb (addRefusal b book l x y) 0 z) (or-left (same it it) (holdsEdge book it) (same-self it)) in
               false≢true (sym no ∙ e ∙ now),
         ))
         (λ z. rw (ne-eqb (addRefusal b book l x y) 0 z) refl)
@@ -94,13 +100,15 @@ module _ (b : Record) (book : Book) (r : Record) (h : Agrees b book r) where
     remove-holds : CallHolds b book r (remove l x y)
     unfolding bookAfterCall
     remove-holds =
-        edit-holds book (cond (eqb (removeRefusal b book l x y) 0) (without it book) book) (removeRefusal b book l x y) (removed r l x y .number) r (removed r l x y .rules)
+        edit-holds book (cond (eqb (removeRefusal b book l x y) 0) (without it book) book) (removeRefusal b book l x y)
+        (removed r l x y .number) r (removed r l x y .rules)
         (remove-number b book r h l x y)
         (λ z. (
           it,
           λ e.
               let was : holdsEdge book it ≡ true = present (not (edgeInRange (b .objects) l x y)) (holdsEdge book it) z in
-              let now : holdsEdge (cond (eqb (removeRefusal b book l x y) 0) (without it book) book) it ≡ false = rw (eq-eqb (removeRefusal b book l x y) 0 z) (without-holds it it book ∙ rw (same-self it) refl) in
+              let now : holdsEdge (cond (eqb (removeRefusal b book l x y) 0) (without it book) book) it ≡ false = rw
+              (eq-eqb (removeRefusal b book l x y) 0 z) (without-holds it it book ∙ rw (same-self it) refl) in
               false≢true (sym now ∙ sym e ∙ was),
         ))
         (λ z. rw (ne-eqb (removeRefusal b book l x y) 0 z) refl)
@@ -116,10 +124,12 @@ module _ (b : Record) (book : Book) (r : Record) (h : Agrees b book r) where
     asked-known : askRefusal b q ≡ 0 → Known b q
     asked-known z = go (leb (b .«method_count») (q .method)) (leb (b .objects) (q .object)) (isUser b (q .requestor)) refl refl refl z
       where
-        go : (u v w : Bool) → leb (b .«method_count») (q .method) ≡ u → leb (b .objects) (q .object) ≡ v → isUser b (q .requestor) ≡ w → first (cause noMethod u ∷ cause noObject v ∷ cause notUser (not w) ∷ []) ≡ 0 → Known b q
+        go : (u v w : Bool) → leb (b .«method_count») (q .method) ≡ u → leb (b .objects) (q .object) ≡ v → isUser b (q .requestor) ≡ w
+            → first (cause noMethod u ∷ cause noObject v ∷ cause notUser (not w) ∷ []) ≡ 0 → Known b q
         go true v w p i t e = absurd (omega arith)
         go false true w p i t e = absurd (omega arith)
-        go false false true p i t e = record { method = leb-false (b .«method_count») (q .method) p; object = leb-false (b .objects) (q .object) i; user = t }
+        go false false true p i t e =
+            record { method = leb-false (b .«method_count») (q .method) p; object = leb-false (b .objects) (q .object) i; user = t }
         go false false false p i t e = absurd (omega arith)
 
     -- a set that will do is one that passes
@@ -133,7 +143,9 @@ module _ (b : Record) (book : Book) (r : Record) (h : Agrees b book r) where
         let (co, me) = and-cases (consistent b c) _ x in
         record {
           grounds = l;
-          enabled = λ p i. all-of (enabledIn b book q) (λ p. member p c) (b .«principal_count») .0 en p (in-lt (b .«principal_count») i l) (in-member i);
+          enabled =
+              λ p i. all-of (enabledIn b book q) (λ p. member p c) (b .«principal_count») .0 en p (in-lt (b .«principal_count») i l)
+              (in-member i);
           consistent = co;
           guard = me;
         }
@@ -153,7 +165,8 @@ module _ (b : Record) (book : Book) (r : Record) (h : Agrees b book r) where
       verdict-denied : (verdict found .number ≡ noSet) ↔ ((c : ℕ) → Satisfies b book q c → ⊥)
       verdict-denied = go found is
         where
-          go : (f : Option ℕ) → IsLeast (b .«principal_count») passes f → ((verdict f .number ≡ noSet) ↔ ((c : ℕ) → Satisfies b book q c → ⊥))
+          go : (f : Option ℕ) → IsLeast (b .«principal_count») passes f
+              → ((verdict f .number ≡ noSet) ↔ ((c : ℕ) → Satisfies b book q c → ⊥))
           go none n = (λ e c w. n c (w .grounds) (satisfies-passes c w), λ f. refl)
           go (some c) n = (λ e. absurd (omega arith), λ f. absurd (f c (passes-satisfies c (n .0) (n .1))))
 
@@ -164,22 +177,39 @@ module _ (b : Record) (book : Book) (r : Record) (h : Agrees b book r) where
           go none e = refl
           go (some c) e = absurd (omega arith)
 
-      verdict-granted : verdict found .number ≢ noSet → (verdict found .number ≡ 0) × Satisfies b book q (verdict found .set) × ((c : ℕ) → Satisfies b book q c → Before (verdict found .set) c)
+      verdict-granted : verdict found .number ≢ noSet
+          → (verdict found .number ≡ 0) × Satisfies b book q (verdict found .set)
+          × ((c : ℕ) → Satisfies b book q c → Before (verdict found .set) c)
       verdict-granted = go found is
         where
           go : (f : Option ℕ) → IsLeast (b .«principal_count») passes f
-              → verdict f .number ≢ noSet → (verdict f .number ≡ 0) × Satisfies b book q (verdict f .set) × ((c : ℕ) → Satisfies b book q c → Before (verdict f .set) c)
+              → verdict f .number ≢ noSet
+              → (verdict f .number ≡ 0) × Satisfies b book q (verdict f .set) × ((c : ℕ) → Satisfies b book q c → Before (verdict f .set) c)
           go none n x = absurd (x refl)
           go (some c) n x = (refl, passes-satisfies c (n .0) (n .1), λ d w. n .2 d (w .grounds) (satisfies-passes d w))
 
     -- of any answer that is the book's reply
-    question-holds : (a : Answer) → numberAndSet a ≡ ask b book q → (askRefusal b q ≢ 0 → a ≡ refused (askRefusal b q) r) → QuestionHolds b book q r a
+    question-holds : (a : Answer) → numberAndSet a ≡ ask b book q → (askRefusal b q ≢ 0 → a ≡ refused (askRefusal b q) r)
+        → QuestionHolds b book q r a
     question-holds a e other =
         record {
-          denied = λ k. subst (λ (v : BookAnswer). (v .number ≡ noSet) ↔ ((c : ℕ) → Satisfies b book q c → ⊥)) (sym (is-verdict k)) (verdict-denied (least b (q .method) (enabledIn b book q)) least-passes);
-          empty = λ k. subst (λ (v : BookAnswer). v .number ≡ noSet → v .set ≡ 0) (sym (is-verdict k)) (verdict-empty (least b (q .method) (enabledIn b book q)) least-passes);
-          granted = λ k. subst (λ (v : BookAnswer). v .number ≢ noSet → (v .number ≡ 0) × Satisfies b book q (v .set) × ((c : ℕ) → Satisfies b book q c → Before (v .set) c)) (sym (is-verdict k)) (verdict-granted (least b (q .method) (enabledIn b book q)) least-passes);
-          refused = λ n. (ap (λ (x : Answer). x .rules) (turned n), ap (λ (x : Answer). x .set) (turned n), λ z. n (asked-known (sym (ap (λ (x : Answer). x .number) (turned n)) ∙ z)));
+          denied =
+              λ k. subst (λ (v : BookAnswer). (v .number ≡ noSet) ↔ ((c : ℕ) → Satisfies b book q c → ⊥)) (sym (is-verdict k))
+              (verdict-denied (least b (q .method) (enabledIn b book q)) least-passes);
+          empty =
+              λ k. subst (λ (v : BookAnswer). v .number ≡ noSet → v .set ≡ 0) (sym (is-verdict k))
+              (verdict-empty (least b (q .method) (enabledIn b book q)) least-passes);
+          granted =
+              λ k. subst (λ (v : BookAnswer). v .number ≢ noSet → (v .number ≡ 0) × Satisfies b book q (v .set) ×
+              ((c : ℕ) → Satisfies b book q c → Before (v .set) c)) (sym (is-verdict k))
+              (verdict-granted (least b (q .method) (enabledIn b book q)) least-passes);
+          refused =
+              λ n. (
+                ap (λ (x : Answer). x .rules) (turned n),
+                ap (λ (x : Answer). x .set) (turned n),
+                λ z. n
+                    (asked-known (sym (ap (λ (x : Answer). x .number) (turned n)) ∙ z)),
+              );
         }
       where
         is-verdict : Known b q → numberAndSet a ≡ verdict (least b (q .method) (enabledIn b book q))
@@ -189,10 +219,14 @@ module _ (b : Record) (book : Book) (r : Record) (h : Agrees b book r) where
         turned n = other (λ z. n (asked-known z))
 
     eager-holds : QuestionHolds b book q r (eager r q)
-    eager-holds = question-holds (eager r q) (eager-answer b book r h q) (λ z. eager-refused b book r h q (askRefusal b q) (sym (refusal-is b book r h q)) z)
+    eager-holds =
+        question-holds (eager r q) (eager-answer b book r h q)
+        (λ z. eager-refused b book r h q (askRefusal b q) (sym (refusal-is b book r h q)) z)
 
     lazy-holds : QuestionHolds b book q r (lazy r q)
-    lazy-holds = question-holds (lazy r q) (lazy-answer b book r h q) (λ z. lazy-refused b book r h q (askRefusal b q) (sym (refusal-is b book r h q)) z)
+    lazy-holds =
+        question-holds (lazy r q) (lazy-answer b book r h q)
+        (λ z. lazy-refused b book r h q (askRefusal b q) (sym (refusal-is b book r h q)) z)
 
     same-set : SameSet r q
     same-set =
@@ -216,7 +250,8 @@ module _ (b : Record) (book : Book) (r : Record) (h : Agrees b book r) where
 
 pub list-holds : (b : Record) (cs : List Call) (book : Book) (r : Record) → Agrees b book r → ListHolds b book r cs
 list-holds b [] book r h = tt
-list-holds b (c ∷ cs) book r h = (call-holds b book r h c, list-holds b cs (bookAfterCall b book c) (engineLeaves r c) (call-agrees b book r h c))
+list-holds b (c ∷ cs) book r h =
+    (call-holds b book r h c, list-holds b cs (bookAfterCall b book c) (engineLeaves r c) (call-agrees b book r h c))
 
 -- a record just loaded agrees the book of its own edges
 pub start : (text : List ℕ) → load text .number ≡ 0 → Agrees (load text .rules) (rows edge (load text .rules)) (load text .rules)

@@ -77,7 +77,8 @@ module _ (r : Record) (q : Question) where
       refused : false ≡ (eqb (questionRefusal r q) 0 && meets r (q .method) (enabled r q))
       refused = rw (ne-eqb (questionRefusal r q) 0 (λ z. h (e ∙ z))) refl
 
-  pub liberal-is : 0 ≡ questionRefusal r q → (b : Bool) → b ≡ meets r (q .method) (enabled r q) → record { number = 0; yes = b } ≡ liberal r q
+  pub liberal-is : 0 ≡ questionRefusal r q → (b : Bool) → b ≡ meets r (q .method) (enabled r q)
+      → record { number = 0; yes = b } ≡ liberal r q
   unfolding liberal
   liberal-is e b h = λ i. record { number = e i; yes = eqb (e i) 0 && h i }
 
@@ -88,6 +89,7 @@ module _ (r : Record) (q : Question) where
       refused : false ≡ (eqb (questionRefusal r q) 0 && any (λ p. meets r (q .method) (p ∷ [])) (enabled r q))
       refused = rw (ne-eqb (questionRefusal r q) 0 (λ z. h (e ∙ z))) refl
 
-  pub strict-is : 0 ≡ questionRefusal r q → (b : Bool) → b ≡ any (λ p. meets r (q .method) (p ∷ [])) (enabled r q) → record { number = 0; yes = b } ≡ strict r q
+  pub strict-is : 0 ≡ questionRefusal r q → (b : Bool) → b ≡ any (λ p. meets r (q .method) (p ∷ [])) (enabled r q)
+      → record { number = 0; yes = b } ≡ strict r q
   unfolding strict
   strict-is e b h = λ i. record { number = e i; yes = eqb (e i) 0 && h i }

@@ -22,14 +22,17 @@ use Rattle.justification.specs.Masked.{AmongPairs}
 
 -- ---- one member more at a index
 
-pub set-in : (l : List ℕ) (i v x y : ℕ) → i < length l → {w : ℕ} → w ≡ bitOr (at l i) (2 ^ v) → (In y (at (set l i w) x) ↔ (In y (at l x) ⊎ ((i ≡ x) × (v ≡ y))))
+pub set-in : (l : List ℕ) (i v x y : ℕ) → i < length l → {w : ℕ} → w ≡ bitOr (at l i) (2 ^ v)
+    → (In y (at (set l i w) x) ↔ (In y (at l x) ⊎ ((i ≡ x) × (v ≡ y))))
 set-in l i v x y h {w} e = go (ℕ-discrete x i)
   where
     go : Dec (x ≡ i) → (In y (at (set l i w) x) ↔ (In y (at l x) ⊎ ((i ≡ x) × (v ≡ y))))
     go (yes q) =
-        let here : at (set l i w) x ≡ bitOr (at l x) (2 ^ v) = ap (at (set l i w)) q ∙ getD-set-same l i w 0 h ∙ e ∙ ap (λ (n : ℕ). bitOr (at l n) (2 ^ v)) (sym q) in (
+        let here : at (set l i w) x ≡ bitOr (at l x) (2 ^ v) = ap (at (set l i w)) q ∙ getD-set-same l i w 0 h ∙ e ∙ ap
+        (λ (n : ℕ). bitOr (at l n) (2 ^ v)) (sym q) in (
           λ m. ⊎-elim (λ z. inl z) (λ z. inr (sym q, sym (pow-in v z))) (or-in (at l x) (2 ^ v) (subst (In y) here m)),
-          λ m. subst (In y) (sym here) (⊎-elim (λ z. in-or-l (2 ^ v) z) (λ z. in-or-r (at l x) (subst (λ (n : ℕ). In n (2 ^ v)) (z .1) (in-pow v))) m),
+          λ m. subst (In y) (sym here)
+              (⊎-elim (λ z. in-or-l (2 ^ v) z) (λ z. in-or-r (at l x) (subst (λ (n : ℕ). In n (2 ^ v)) (z .1) (in-pow v))) m),
         )
     go (no f) =
         let here : at (set l i w) x ≡ at l x = getD-set-other l i x w 0 f in (
@@ -38,7 +41,8 @@ set-in l i v x y h {w} e = go (ℕ-discrete x i)
         )
 
 -- both members of a pair, each at the other's index
-pub pair-in : (m : List ℕ) (a b : ℕ) → length m ≡ 20 → a < 20 → b < 20 → {v w : ℕ} → v ≡ bitOr (at m a) (2 ^ b) → w ≡ bitOr (at (set m a v) b) (2 ^ a)
+pub pair-in : (m : List ℕ) (a b : ℕ) → length m ≡ 20 → a < 20 → b < 20 → {v w : ℕ} → v ≡ bitOr (at m a) (2 ^ b)
+    → w ≡ bitOr (at (set m a v) b) (2 ^ a)
     → (x y : ℕ) → (In y (at (set (set m a v) b w) x) ↔ (In y (at m x) ⊎ (((a ≡ x) × (b ≡ y)) ⊎ ((b ≡ x) × (a ≡ y)))))
 pair-in m a b long la lb {v} ev ew x y =
     let first = set-in m a b x y (omega arith) ev in
@@ -85,7 +89,8 @@ module _ (lows highs : List ℕ) where
       there : (p q : ℕ) → p < 20 → In q (at after p) → AmongPairs (suc i) lows highs p q
       there p q l m =
           ⊎-elim
-          (λ x. ⊎-elim (λ y. or-left _ _ (one-more i p q .1 (inl y))) (λ y. or-right (any (same (p ∷ q ∷ [])) (pairsOf (suc i) lows highs)) _ (one-more i q p .1 (inl y)))
+          (λ x. ⊎-elim (λ y. or-left _ _ (one-more i p q .1 (inl y)))
+          (λ y. or-right (any (same (p ∷ q ∷ [])) (pairsOf (suc i) lows highs)) _ (one-more i q p .1 (inl y)))
           (or-cases _ _ (h .each p q l .0 x)))
           (λ x. ⊎-elim
           (λ (y, z). or-left _ _ (one-more i p q .1 (inr (sym ea ∙ y, sym eb ∙ z))))
@@ -98,5 +103,6 @@ module _ (lows highs : List ℕ) where
           w p q l .1
           (⊎-elim
           (λ x. ⊎-elim (λ y. inl (h .each p q l .1 (or-left _ _ y))) (λ (y, z). inr (inl (ea ∙ y, eb ∙ z))) (one-more i p q .0 x))
-          (λ x. ⊎-elim (λ y. inl (h .each p q l .1 (or-right (any (same (p ∷ q ∷ [])) (pairsOf i lows highs)) _ y))) (λ (y, z). inr (inr (eb ∙ z, ea ∙ y))) (one-more i q p .0 x))
+          (λ x. ⊎-elim (λ y. inl (h .each p q l .1 (or-right (any (same (p ∷ q ∷ [])) (pairsOf i lows highs)) _ y)))
+          (λ (y, z). inr (inr (eb ∙ z, ea ∙ y))) (one-more i q p .0 x))
           (or-cases _ _ m))

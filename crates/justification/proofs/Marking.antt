@@ -24,14 +24,17 @@ last p i l = eq-or-lt-of-le {n = p} {m = i} (omega arith)
 pub those-none : (P : ℕ → Type 0) → Those 0 P 0
 those-none P = record { only = λ p h. absurd (none-in-zero p h); all = λ p l e. absurd (omega arith) }
 
-pub those-more : {i s s′ : ℕ} {P : ℕ → Type 0} → Those i P s → (b : Bool) → Decides b (P i) → s′ ≡ cond b (bitOr s (2 ^ i)) s → Those (i + 1) P s′
+pub those-more : {i s s′ : ℕ} {P : ℕ → Type 0} → Those i P s → (b : Bool) → Decides b (P i) → s′ ≡ cond b (bitOr s (2 ^ i)) s
+    → Those (i + 1) P s′
 those-more {i} {s} {s′} {P} h true d e =
     record {
       only = λ p m. ⊎-elim
           (λ x. let (l, q) = h .only p x in (omega arith, q))
           (λ x. let q = pow-in i x in (omega arith, subst P (sym q) (d .yes refl)))
           (or-in s (2 ^ i) (subst (In p) e m));
-      all = λ p l q. subst (In p) (sym e) (⊎-elim (λ x. in-or-r s (subst (λ (n : ℕ). In n (2 ^ i)) (sym x) (in-pow i))) (λ x. in-or-l (2 ^ i) (h .all p x q)) (last p i l));
+      all =
+          λ p l q. subst (In p) (sym e)
+          (⊎-elim (λ x. in-or-r s (subst (λ (n : ℕ). In n (2 ^ i)) (sym x) (in-pow i))) (λ x. in-or-l (2 ^ i) (h .all p x q)) (last p i l));
     }
 those-more {i} {s} {s′} {P} h false d e =
     record {
@@ -61,7 +64,8 @@ marks-end {s = s} {t = t} e h = subst (λ (n : ℕ). Marks n t s) e h
 
 -- ---- a table filled index by index: what holds of each index below j
 
-pub stored : (P : ℕ → ℕ → Type 0) (l : List ℕ) (j v : ℕ) → j < length l → ((k : ℕ) → k < j → P k (at l k)) → P j v → (k : ℕ) → k < j + 1 → P k (at (set l j v) k)
+pub stored : (P : ℕ → ℕ → Type 0) (l : List ℕ) (j v : ℕ) → j < length l → ((k : ℕ) → k < j → P k (at l k)) → P j v → (k : ℕ) → k < j + 1
+    → P k (at (set l j v) k)
 stored P l j v h f x k b =
     ⊎-elim
     (λ e. subst (λ (n : ℕ). P n (at (set l j v) n)) (sym e) (subst (P j) (sym (getD-set-same l j v 0 h)) x))

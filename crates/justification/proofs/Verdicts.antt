@@ -36,18 +36,23 @@ module _ (r : Record) (q : Question) (a e : ℕ) (grants : List ℕ)
   limit : at (r .«method_privileges») k < 2 ^ 64
   limit = subst (λ (x : ℕ). x < 2 ^ 64) wanted bounded
 
-  pub liberal-yes : Those (r .«principal_count») (λ p. MetBy false w (at grants p)) a → (g : ℕ) (b : Bool) → Gathers (r .«principal_count») e grants g
+  pub liberal-yes : Those (r .«principal_count») (λ p. MetBy false w (at grants p)) a → (g : ℕ) (b : Bool)
+      → Gathers (r .«principal_count») e grants g
       → Decides b (MetBy (not (eqb (at (r .«method_forms») k) 0)) w g) → b ≡ meets r (q .method) (enabled r q)
   liberal-yes givers g b gathers d =
-      let gathered = subst (λ (x : ℕ). (j : ℕ) → In j x → (In j g ↔ (have r (enabled r q) j ≡ true))) wanted (enabled-gather r q a e g w grants givers those gives gathers) in
+      let gathered = subst (λ (x : ℕ). (j : ℕ) → In j x → (In j g ↔ (have r (enabled r q) j ≡ true))) wanted
+      (enabled-gather r q a e g w grants givers those gives gathers) in
       let law = guard-met r k limit (enabled r q) g gathered in
       let d′ = subst (λ (x : ℕ). Decides b (MetBy (not (eqb (at (r .«method_forms») k) 0)) x g)) wanted d in
-      same-test b (meets r k (enabled r q)) (λ t. law .1 (d′ .yes t), λ t. decided b d′ (law .0 t)) ∙ ap (λ (n : ℕ). meets r n (enabled r q)) same
+      same-test b (meets r k (enabled r q)) (λ t. law .1 (d′ .yes t), λ t. decided b d′ (law .0 t))
+      ∙ ap (λ (n : ℕ). meets r n (enabled r q)) same
 
   pub strict-yes : Those (r .«principal_count») (λ p. MetBy (not (eqb (at (r .«method_forms») k) 0)) w (at grants p)) a
       → not (eqb e 0) ≡ any (λ p. meets r (q .method) (p ∷ [])) (enabled r q)
   strict-yes able =
-      let able′ = subst (λ (x : ℕ). Those (r .«principal_count») (λ p. MetBy (not (eqb (at (r .«method_forms») k) 0)) x (at grants p)) a) wanted able in
+      let able′ = subst (λ (x : ℕ). Those (r .«principal_count») (λ p. MetBy (not (eqb (at (r .«method_forms») k) 0)) x (at grants p)) a)
+      wanted able in
       let law = one-meets-is r k q a e grants limit able′ those gives in
-      same-test (not (eqb e 0)) (any (λ p. meets r k (p ∷ [])) (enabled r q)) (λ t. law .1 (some-in e (not-empty e t)), λ t. let (p, i) = law .0 t in holding e p i)
+      same-test (not (eqb e 0)) (any (λ p. meets r k (p ∷ [])) (enabled r q))
+      (λ t. law .1 (some-in e (not-empty e t)), λ t. let (p, i) = law .0 t in holding e p i)
       ∙ ap (λ (n : ℕ). any (λ p. meets r n (p ∷ [])) (enabled r q)) same

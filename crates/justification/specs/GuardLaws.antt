@@ -19,23 +19,31 @@ use Rattle.justification.specs.Predicates.{isEnabled, enabled}
 use Rattle.justification.specs.Parts.{Marks, Those}
 
 -- what a demarcation has is what those at or below it list
-pub demarcation-gathers : (r : Record) (d s g : ℕ) → Marks (r .«demarcation_count») (λ e. reaches (pairsOf (r .«hierarchy_count») (r .inferiors) (r .superiors)) e d) s
+pub demarcation-gathers : (r : Record) (d s g : ℕ)
+    → Marks (r .«demarcation_count») (λ e. reaches (pairsOf (r .«hierarchy_count») (r .inferiors) (r .superiors)) e d) s
     → Gathers (r .«demarcation_count») s (r .«demarcation_privileges») g → (k : ℕ) → (In k g ↔ (demarcationHas r d k ≡ true))
 unfolding demarcationHas
 demarcation-gathers r d s g marks gathers k = (
   λ i.
       let (e, l, j, q) = gathers .only k i in
-      table-any (λ e. reaches (pairsOf (r .«hierarchy_count») (r .inferiors) (r .superiors)) e d && member k (at (r .«demarcation_privileges») e)) (λ (e : ℕ). e) (r .«demarcation_count») e l
+      table-any
+      (λ e. reaches (pairsOf (r .«hierarchy_count») (r .inferiors) (r .superiors)) e d && member k (at (r .«demarcation_privileges») e))
+      (λ (e : ℕ). e) (r .«demarcation_count») e l
       (and-both _ _ (marks .only e j .1) (in-member q)),
   λ t.
-      let (e, l, x) = any-table (λ e. reaches (pairsOf (r .«hierarchy_count») (r .inferiors) (r .superiors)) e d && member k (at (r .«demarcation_privileges») e)) (λ (e : ℕ). e) (r .«demarcation_count») t in
+      let (e, l, x) = any-table
+      (λ e. reaches (pairsOf (r .«hierarchy_count») (r .inferiors) (r .superiors)) e d && member k (at (r .«demarcation_privileges») e))
+      (λ (e : ℕ). e) (r .«demarcation_count») t in
       let (y, z) = and-cases (reaches (pairsOf (r .«hierarchy_count») (r .inferiors) (r .superiors)) e d) _ x in
       gathers .all k e l (marks .all e l y) (member-in z),
 )
 
 -- the guard of method m, which lists privileges below 64: g need tell only of those
-module _ (r : Record) (m : ℕ) (bounded : at (r .«method_privileges») m < 2 ^ 64) (ps : List ℕ) (g : ℕ) (gives : (k : ℕ) → In k (at (r .«method_privileges») m) → (In k g ↔ (have r ps k ≡ true))) where
-  by-form : (one : Bool) → ((cond one (any (have r ps) (listed r m)) (every (have r ps) (listed r m)) ≡ true) ↔ MetBy (not one) (at (r .«method_privileges») m) g)
+module _ (r : Record) (m : ℕ) (bounded : at (r .«method_privileges») m < 2 ^ 64) (ps : List ℕ) (g : ℕ)
+    (gives : (k : ℕ) → In k (at (r .«method_privileges») m) → (In k g ↔ (have r ps k ≡ true))) where
+  by-form : (one : Bool)
+      →
+      ((cond one (any (have r ps) (listed r m)) (every (have r ps) (listed r m)) ≡ true) ↔ MetBy (not one) (at (r .«method_privileges») m) g)
   by-form true =
       let e = some-of (have r ps) (λ j. member j (at (r .«method_privileges») m)) 64 in (
         λ t. let (j, l, w, h) = e .0 t in (j, member-in w, gives j (member-in w) .1 h),
@@ -68,9 +76,11 @@ enabled-gather r q a e g w grants givers those gives gathers k asked =
     )
 
 -- what one principal gives alone
-pub one-gives : (r : Record) (p g : ℕ) → ((k : ℕ) → (In k g ↔ (demarcationHas r (at (r .«principal_demarcations») p) k ≡ true))) → (k : ℕ) → (In k g ↔ (have r (p ∷ []) k ≡ true))
+pub one-gives : (r : Record) (p g : ℕ) → ((k : ℕ) → (In k g ↔ (demarcationHas r (at (r .«principal_demarcations») p) k ≡ true))) → (k : ℕ)
+    → (In k g ↔ (have r (p ∷ []) k ≡ true))
 unfolding have
-one-gives r p g h k = (λ i. or-left _ false (h k .0 i), λ t. h k .1 (or-left-only (demarcationHas r (at (r .«principal_demarcations») p) k) false refl t))
+one-gives r p g h k =
+    (λ i. or-left _ false (h k .0 i), λ t. h k .1 (or-left-only (demarcationHas r (at (r .«principal_demarcations») p) k) false refl t))
 
 -- one enabled principal alone meets the guard: of those that do, one is enabled
 pub one-meets-is : (r : Record) (m : ℕ) (q : Question) (a e : ℕ) (grants : List ℕ) → at (r .«method_privileges») m < 2 ^ 64
@@ -84,5 +94,6 @@ one-meets-is r m q a e grants bounded able those gives =
       λ (p, i). let (l, c) = those .only p i in all .1 (p, l, c .1, alone p l .1 (able .only p (c .0) .1)),
     )
   where
-    alone : (p : ℕ) → p < r .«principal_count» → ((meets r m (p ∷ []) ≡ true) ↔ MetBy (not (eqb (at (r .«method_forms») m) 0)) (at (r .«method_privileges») m) (at grants p))
+    alone : (p : ℕ) → p < r .«principal_count»
+        → ((meets r m (p ∷ []) ≡ true) ↔ MetBy (not (eqb (at (r .«method_forms») m) 0)) (at (r .«method_privileges») m) (at grants p))
     alone p l = guard-met r m bounded (p ∷ []) (at grants p) (λ k _. one-gives r p (at grants p) (λ j. gives p j l) k)

@@ -30,7 +30,8 @@ not-both true false = (λ e t u. false≢true u, λ h. refl)
 not-both false y = (λ e t u. false≢true t, λ h. refl)
 
 -- the row at a place of the exclusions is the row (p, q)
-is-row : (r : Record) (p q i : ℕ) → same (p ∷ q ∷ []) (row exclusion i r) ≡ true → (p ≡ at (r .«exclusion_lows») i) × (q ≡ at (r .«exclusion_highs») i)
+is-row : (r : Record) (p q i : ℕ) → same (p ∷ q ∷ []) (row exclusion i r) ≡ true
+    → (p ≡ at (r .«exclusion_lows») i) × (q ≡ at (r .«exclusion_highs») i)
 is-row r p q i e =
     let (x, y) = and-cases (eqb p (at (r .«exclusion_lows») i)) _ e in
     (eqb-true p _ x, eqb-true q _ (and-cases (eqb q (at (r .«exclusion_highs») i)) true y .0))
@@ -53,7 +54,8 @@ module _ (r : Record) (m a : ℕ) (s : Masks) (k : Masked r m a s) (c : ℕ) (in
   no-pair = (
     λ e i l x y. not-both _ (member (at (r .«exclusion_highs») i) c) .0
         (every-table parted (λ j. row exclusion j r) (r .«exclusion_count») e i l) (in-member x) (in-member y),
-    λ h. table-every parted (λ j. row exclusion j r) (r .«exclusion_count») (λ i l. not-both _ _ .1 (λ x y. h i l (member-in x) (member-in y))),
+    λ h. table-every parted (λ j. row exclusion j r) (r .«exclusion_count»)
+        (λ i l. not-both _ _ .1 (λ x y. h i l (member-in x) (member-in y))),
   )
 
   -- then no two members of c are a row
@@ -67,7 +69,9 @@ module _ (r : Record) (m a : ℕ) (s : Masks) (k : Masked r m a s) (c : ℕ) (in
   apart-pairs : ((p q : ℕ) → In p c → In q c → excluded r p q → ⊥) ↔ NoPair
   apart-pairs = (
     λ h i l x y. h _ _ x y
-        (or-left _ _ (table-any (same (at (r .«exclusion_lows») i ∷ at (r .«exclusion_highs») i ∷ [])) (λ j. row exclusion j r) (r .«exclusion_count») i l (row-is r i))),
+        (or-left _ _
+        (table-any (same (at (r .«exclusion_lows») i ∷ at (r .«exclusion_highs») i ∷ [])) (λ j. row exclusion j r) (r .«exclusion_count») i l
+        (row-is r i))),
     λ h p q x y e. ⊎-elim (λ t. paired p q t h x y) (λ t. paired q p t h y x) (or-cases (any (same (p ∷ q ∷ [])) (rows exclusion r)) _ e),
   )
 
@@ -121,7 +125,8 @@ module _ (r : Record) (m a : ℕ) (s : Masks) (k : Masked r m a s) (c : ℕ) (in
   in-wanted : (j : ℕ) → (In j (s .wanted) ↔ (member j (at (r .«method_privileges») m) ≡ true))
   in-wanted j = (λ x. in-member (subst (In j) (k .wanted) x), λ e. subst (In j) (sym (k .wanted)) (member-in e))
 
-  met-form : (one : Bool) → (Met (not one) s c ↔ (cond one (any (have r (members r c)) (listed r m)) (every (have r (members r c)) (listed r m)) ≡ true))
+  met-form : (one : Bool)
+      → (Met (not one) s c ↔ (cond one (any (have r (members r c)) (listed r m)) (every (have r (members r c)) (listed r m)) ≡ true))
   met-form true =
       let e = some-of (have r (members r c)) (λ j. member j (at (r .«method_privileges») m)) 64 in (
         λ (j, w, g). e .1 (j, in-lt 64 w (k .bounded), in-wanted j .0 w, given-have j .0 g),
@@ -135,7 +140,8 @@ module _ (r : Record) (m a : ℕ) (s : Masks) (k : Masked r m a s) (c : ℕ) (in
 
   met-meets : Met (s .every) s c ↔ (meets r m (members r c) ≡ true)
   unfolding meets
-  met-meets = subst (λ (b : Bool). Met b s c ↔ (meets r m (members r c) ≡ true)) (sym (k .every)) (met-form (eqb (at (r .«method_forms») m) 0))
+  met-meets =
+      subst (λ (b : Bool). Met b s c ↔ (meets r m (members r c) ≡ true)) (sym (k .every)) (met-form (eqb (at (r .«method_forms») m) 0))
 
 -- the candidates are the sets that pass
 pub candidate-passes : (r : Record) (m a : ℕ) (s : Masks) → Masked r m a s → (c : ℕ) → c < 2 ^ (r .«principal_count»)
@@ -159,7 +165,8 @@ candidate-passes r m a s k c l = (
 abbrev passes : Record → ℕ → ℕ → ℕ → Bool
 passes r m a c = (consistent r c && meets r m (members r c)) && every (λ p. member p a) (members r c)
 
-found-least : (r : Record) (m a : ℕ) (s : Masks) → Masked r m a s → (f : Found) → Least s f → IsLeast (r .«principal_count») (passes r m a) (found f)
+found-least : (r : Record) (m a : ℕ) (s : Masks) → Masked r m a s → (f : Found) → Least s f
+    → IsLeast (r .«principal_count») (passes r m a) (found f)
 found-least r m a s k (Set c) h =
     let l = subst (λ (n : ℕ). c < 2 ^ n) (k .count) (h .0 .inside) in
     (l, candidate-passes r m a s k c l .0 (h .0), λ y b t. h .1 y (candidate-passes r m a s k y b .1 t))
@@ -168,4 +175,5 @@ found-least r m a s k Nothing h = λ y b t. h y (candidate-passes r m a s k y b 
 -- the answer of the search is the least set that passes
 pub least-masked : (r : Record) (m a : ℕ) (s : Masks) → Masked r m a s → (f : Found) → Least s f → found f ≡ least r m (λ p. member p a)
 least-masked r m a s k f h =
-    only-least (r .«principal_count») (passes r m a) (found f) (least r m (λ p. member p a)) (found-least r m a s k f h) (least-is r m (λ p. member p a))
+    only-least (r .«principal_count») (passes r m a) (found f) (least r m (λ p. member p a)) (found-least r m a s k f h)
+    (least-is r m (λ p. member p a))

@@ -30,7 +30,8 @@ pub record Masked (r : Record) (m allowed : ℕ) (s : Masks) : Type 0 where
   pub excludes : (p q : ℕ) → p < r .«principal_count» → q < r .«principal_count» → (In q (at (s .excludes) p) ↔ excluded r p q)
   pub needed : (p q : ℕ) → p < r .«principal_count» → In q (at (s .needs) p) → q < r .«principal_count»
   pub needs : (p q : ℕ) → p < r .«principal_count» → q < r .«principal_count» → (In q (at (s .needs) p) ↔ (needs r p q ≡ true))
-  pub grants : (p k : ℕ) → p < r .«principal_count» → (In k (at (s .grants) p) ↔ (demarcationHas r (at (r .«principal_demarcations») p) k ≡ true))
+  pub grants : (p k : ℕ) → p < r .«principal_count»
+      → (In k (at (s .grants) p) ↔ (demarcationHas r (at (r .«principal_demarcations») p) k ≡ true))
   pub every : s .every ≡ not (eqb (at (r .«method_forms») m) 0)
   pub wanted : s .wanted ≡ at (r .«method_privileges») m
   pub bounded : s .wanted < 2 ^ 64

@@ -25,20 +25,25 @@ in-range false false y e = absurd (false≢true e)
 pub line-in-range : (r : Record) (k : Kind) → tableLoads r k ≡ true → (i : ℕ) → i < count k r → inRange k i r (row k i r) ≡ true
 unfolding rowRefusal rowCauses
 line-in-range r k e i l =
-    let h = every-at (λ j. eqb (rowRefusal k j r (row k j r)) 0) (below (count k r)) i 0 (table-rows r k e) (omega (arith, length-table (count k r) (λ (j : ℕ). j))) in
-    in-range (limited k && leb (room k) i) (inRange k i r (row k i r)) (rising k && ltb (key k (row k i r)) (minimumKey k i r)) (ap (λ (j : ℕ). eqb (rowRefusal k j r (row k j r)) 0) (sym (table-at (count k r) (λ (j : ℕ). j) i 0 l)) ∙ h)
+    let h = every-at (λ j. eqb (rowRefusal k j r (row k j r)) 0) (below (count k r)) i 0 (table-rows r k e)
+    (omega (arith, length-table (count k r) (λ (j : ℕ). j))) in
+    in-range (limited k && leb (room k) i) (inRange k i r (row k i r)) (rising k && ltb (key k (row k i r)) (minimumKey k i r))
+    (ap (λ (j : ℕ). eqb (rowRefusal k j r (row k j r)) 0) (sym (table-at (count k r) (λ (j : ℕ). j) i 0 l)) ∙ h)
 
 module _ (r : Record) (loads : (j : Kind) → tableLoads r j ≡ true) (i : ℕ) where
-  pub principal-named : i < r .«principal_count» → (at (r .«principal_formulas») i < r .«formula_count») × (at (r .«principal_demarcations») i < r .«demarcation_count»)
+  pub principal-named : i < r .«principal_count»
+      → (at (r .«principal_formulas») i < r .«formula_count») × (at (r .«principal_demarcations») i < r .«demarcation_count»)
   unfolding inRange
   principal-named l =
-      let (f, d) = and-cases (ltb (at (r .«principal_formulas») i) (r .«formula_count»)) _ (line-in-range r principal (loads principal) i l) in
+      let (f, d) = and-cases (ltb (at (r .«principal_formulas») i) (r .«formula_count»)) _ (line-in-range r principal (loads principal) i l)
+      in
       (ltb-true _ _ f, ltb-true _ _ d)
 
   pub exclusion-named : i < r .«exclusion_count» → (at (r .«exclusion_lows») i < 20) × (at (r .«exclusion_highs») i < 20)
   unfolding inRange
   exclusion-named l =
-      let (a, b) = and-cases (ltb (at (r .«exclusion_lows») i) (at (r .«exclusion_highs») i)) _ (line-in-range r exclusion (loads exclusion) i l) in
+      let (a, b) = and-cases (ltb (at (r .«exclusion_lows») i) (at (r .«exclusion_highs») i)) _
+      (line-in-range r exclusion (loads exclusion) i l) in
       let x = ltb-true (at (r .«exclusion_lows») i) (at (r .«exclusion_highs») i) a in
       let y = ltb-true (at (r .«exclusion_highs») i) (r .«principal_count») b in
       let few = table-few r principal (loads principal) in

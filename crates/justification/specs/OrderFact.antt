@@ -31,7 +31,8 @@ first-append : (p : ℕ → Bool) (l m : List ℕ) → firstOf p (l ++ m) ≡ or
 first-append p [] m = refl
 first-append p (x ∷ l) m = go (p x) (first-append p l m)
   where
-    go : (b : Bool) → firstOf p (l ++ m) ≡ orElse (firstOf p l) (firstOf p m) → cond b (some x) (firstOf p (l ++ m)) ≡ orElse (cond b (some x) (firstOf p l)) (firstOf p m)
+    go : (b : Bool) → firstOf p (l ++ m) ≡ orElse (firstOf p l) (firstOf p m)
+        → cond b (some x) (firstOf p (l ++ m)) ≡ orElse (cond b (some x) (firstOf p l)) (firstOf p m)
     go true e = refl
     go false e = e
 
@@ -39,7 +40,8 @@ first-map : (p : ℕ → Bool) (f : ℕ → ℕ) (l : List ℕ) → firstOf p (m
 first-map p f [] = refl
 first-map p f (x ∷ l) = go (p (f x)) (first-map p f l)
   where
-    go : (b : Bool) → firstOf p (map f l) ≡ mapped f (firstOf (λ y. p (f y)) l) → cond b (some (f x)) (firstOf p (map f l)) ≡ mapped f (cond b (some x) (firstOf (λ y. p (f y)) l))
+    go : (b : Bool) → firstOf p (map f l) ≡ mapped f (firstOf (λ y. p (f y)) l)
+        → cond b (some (f x)) (firstOf p (map f l)) ≡ mapped f (cond b (some x) (firstOf (λ y. p (f y)) l))
     go true e = refl
     go false e = e
 
@@ -69,7 +71,10 @@ no-ones = bin-ind (λ (n : ℕ). ones n ≡ 0 → n ≡ 0) (λ e. refl) (λ n ih
 
 ones-top : (m x : ℕ) → x < 2 ^ m → ones (x + 2 ^ m) ≡ 1 + ones x
 ones-top m x l =
-    ap ones (add-comm x (2 ^ m)) ∙ ap (λ (z : ℕ). ones (z + x)) (sym (one-mul (2 ^ m))) ∙ ones-cat m 1 x l ∙ ap (λ (z : ℕ). z + ones x) ones-one
+    ap ones (add-comm x (2 ^ m))
+    ∙ ap (λ (z : ℕ). ones (z + x)) (sym (one-mul (2 ^ m)))
+    ∙ ones-cat m 1 x l
+    ∙ ap (λ (z : ℕ). z + ones x) ones-one
 
 double : (m : ℕ) → 2 ^ suc m ≡ 2 * 2 ^ m
 double m = pow-suc 2 m ∙ mul-comm (2 ^ m) 2
@@ -126,8 +131,10 @@ of-size zero (suc k) p = λ y l o t. let e : y ≡ 0 = omega arith in let z = su
 of-size (suc n) zero p = alone (suc n) p (p 0) refl
 of-size (suc n) (suc k) p =
     subst (LeastOf (suc n) (suc k) p)
-    (sym (first-append p (sets n (suc k)) (map (λ c. c + 2 ^ n) (sets n k)) ∙ ap (orElse (firstOf p (sets n (suc k)))) (first-map p (λ c. c + 2 ^ n) (sets n k))))
-    (both n k p (firstOf p (sets n (suc k))) (firstOf (λ x. p (x + 2 ^ n)) (sets n k)) (of-size n (suc k) p) (of-size n k (λ x. p (x + 2 ^ n))))
+    (sym (first-append p (sets n (suc k)) (map (λ c. c + 2 ^ n) (sets n k))
+    ∙ ap (orElse (firstOf p (sets n (suc k)))) (first-map p (λ c. c + 2 ^ n) (sets n k))))
+    (both n k p (firstOf p (sets n (suc k))) (firstOf (λ x. p (x + 2 ^ n)) (sets n k)) (of-size n (suc k) p)
+    (of-size n k (λ x. p (x + 2 ^ n))))
 
 -- ---- the sets of every size below k
 abbrev LeastUpTo : ℕ → ℕ → (ℕ → Bool) → Option ℕ → Type 0
@@ -142,8 +149,13 @@ next n k p (some c) b f g =
     let q = f .1 in
     (f .0, omega arith, f .2, λ y l o t. ⊎-elim (λ h. f .3 y l h t) (λ h. before-fewer (omega arith)) (smaller (ones y) k o))
 next n k p none (some c) f g =
-    let q = g .1 in
-    (g .0, omega arith, g .2, λ y l o t. ⊎-elim (λ h. absurd (f y l h t)) (λ h. before-size (q ∙ sym h) (g .3 y l h t)) (smaller (ones y) k o))
+    let q = g .1 in (
+      g .0,
+      omega arith,
+      g .2,
+      λ y l o t. ⊎-elim (λ h. absurd (f y l h t)) (λ h. before-size (q ∙ sym h) (g .3 y l h t))
+          (smaller (ones y) k o),
+    )
 next n k p none none f g = λ y l o t. ⊎-elim (λ h. f y l h t) (λ h. g y l h t) (smaller (ones y) k o)
 
 up-to : (n k : ℕ) (p : ℕ → Bool) → LeastUpTo n k p (firstOf p (bySize n k))

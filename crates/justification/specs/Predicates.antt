@@ -1,4 +1,5 @@
--- Who may put a question, and the predicates liberal and strict (document 01, "Writing, liberal and strict"; definitions 10 and 11 of the model).
+-- Who may put a question, and the predicates liberal and strict (document 01, "Writing, liberal and strict"; definitions 10 and 11
+-- of the model).
 use Prim.Native.Nat.{ℕ}
 use mathlib.Core.Bool.{Bool, not, _&&_}
 use mathlib.Core.List.{List, [], _∷_}

@@ -102,7 +102,12 @@ fn column_sets(c: [[bool; MOST_PRINCIPALS]; MOST_PRINCIPALS], n: usize) -> [u32;
 }
 
 // For each of so many things those that come to it by steps along the pairs, none or more.
-fn leading_to(things: usize, count: usize, firsts: [u8; MOST_PAIRS], seconds: [u8; MOST_PAIRS]) -> [u32; MOST_PRINCIPALS]
+fn leading_to(
+    things: usize,
+    count: usize,
+    firsts: [u8; MOST_PAIRS],
+    seconds: [u8; MOST_PAIRS],
+) -> [u32; MOST_PRINCIPALS]
     requires { ⌜ (pairsLoad things count firsts seconds ≡ true) × (things ≤ mostPrincipals) ⌝ }
     ensures { λ r. ⌜ ((j : ℕ) → j < things → Marks things (λ i. reaches (pairsOf count firsts seconds) i j) (at r j)) ⌝ }
 {
@@ -308,7 +313,8 @@ pub fn liberal(rules: Record, question: Question) -> Verdict
     liberal_given(rules, loads, question)
 }
 
-// The same, where it is known whether some bundle loads to the record. Only the formulas of principals that give a wanted privilege are evaluated.
+// The same, where it is known whether some bundle loads to the record. Only the formulas of principals that give a wanted privilege
+// are evaluated.
 pub fn liberal_given(rules: Record, loads: bool, question: Question) -> Verdict
     requires { ⌜ loads ≡ validity.loadable rules ⌝ }
     ensures { λ r. ⌜ r ≡ predicates.liberal rules question ⌝ }

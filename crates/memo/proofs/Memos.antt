@@ -45,12 +45,16 @@ those-append : (p : ℕ → Bool) (l m : List ℕ) → those p (l ++ m) ≡ thos
 those-append p [] m = refl
 those-append p (x ∷ l) m = go (p x) (those-append p l m)
   where
-    go : (b : Bool) → those p (l ++ m) ≡ those p l ++ those p m → cond b (x ∷ those p (l ++ m)) (those p (l ++ m)) ≡ cond b (x ∷ those p l) (those p l) ++ those p m
+    go : (b : Bool) → those p (l ++ m) ≡ those p l ++ those p m
+        → cond b (x ∷ those p (l ++ m)) (those p (l ++ m)) ≡ cond b (x ∷ those p l) (those p l) ++ those p m
     go true e = ap (λ (t : List ℕ). x ∷ t) e
     go false e = e
 
 counted : (p : ℕ → Bool) (n : ℕ) → length (those p (below (suc n))) ≡ length (those p (below n)) + cond (p n) 1 0
-counted p n = ap length (those-append p (below n) (n ∷ [])) ∙ length-append (those p (below n)) (those p (n ∷ [])) ∙ ap (λ (k : ℕ). length (those p (below n)) + k) (go (p n))
+counted p n =
+    ap length (those-append p (below n) (n ∷ []))
+    ∙ length-append (those p (below n)) (those p (n ∷ []))
+    ∙ ap (λ (k : ℕ). length (those p (below n)) + k) (go (p n))
   where
     go : (b : Bool) → length (cond b (n ∷ []) []) ≡ cond b 1 0
     go true = refl
@@ -65,10 +69,14 @@ module _ (before after : Memo) where
   pub counted-none : Counted 0 0
   counted-none = record { is = refl; few = omega arith }
 
-  pub counted-more : {count f more : ℕ} → Counted count f → more ≡ cond (known after f && not (known before f)) 1 0 → more ≤ 1 → Counted (count + more) (f + 1)
+  pub counted-more : {count f more : ℕ} → Counted count f → more ≡ cond (known after f && not (known before f)) 1 0 → more ≤ 1
+      → Counted (count + more) (f + 1)
   counted-more {count} {f} {more} h e l =
       record {
-        is = (λ i. h .is i + e i) ∙ sym (counted (λ g. known after g && not (known before g)) f) ∙ ap (λ (n : ℕ). length (those (λ g. known after g && not (known before g)) (below n))) (sym (add-one f));
+        is =
+            (λ i. h .is i + e i)
+            ∙ sym (counted (λ g. known after g && not (known before g)) f)
+            ∙ ap (λ (n : ℕ). length (those (λ g. known after g && not (known before g)) (below n))) (sym (add-one f));
         few = omega (arith, h .few);
       }
 
@@ -77,7 +85,8 @@ module _ (before after : Memo) where
   counted-all h e = h .is ∙ ap (λ (n : ℕ). length (those (λ g. known after g && not (known before g)) (below n))) e
 
 -- one principal more
-evaluated-append : (truth : ℕ → Bool) (r : Record) (m : Memo) (l : List ℕ) (p : ℕ) → evaluatedAll truth r m (l ++ (p ∷ [])) ≡ evaluated truth (evaluatedAll truth r m l) (formulaOf r p)
+evaluated-append : (truth : ℕ → Bool) (r : Record) (m : Memo) (l : List ℕ) (p : ℕ)
+    → evaluatedAll truth r m (l ++ (p ∷ [])) ≡ evaluated truth (evaluatedAll truth r m l) (formulaOf r p)
 unfolding evaluatedAll
 evaluated-append truth r m [] p = refl
 evaluated-append truth r m (x ∷ l) p = evaluated-append truth r (evaluated truth m (formulaOf r x)) l p
@@ -86,7 +95,11 @@ pub evaluated-none : (truth : ℕ → Bool) (r : Record) (m : Memo) → m ≡ ev
 unfolding evaluatedAll
 evaluated-none truth r m = refl
 
-pub evaluated-more : (truth : ℕ → Bool) (r : Record) (m : Memo) (p : ℕ) {k after : Memo} {f : ℕ} → k ≡ evaluatedAll truth r m (below p) → f ≡ formulaOf r p → after ≡ evaluated truth k f
+pub evaluated-more : (truth : ℕ → Bool) (r : Record) (m : Memo) (p : ℕ) {k after : Memo} {f : ℕ} → k ≡ evaluatedAll truth r m (below p)
+    → f ≡ formulaOf r p → after ≡ evaluated truth k f
     → after ≡ evaluatedAll truth r m (below (p + 1))
 evaluated-more truth r m p e d h =
-    h ∙ (λ i. evaluated truth (e i) (d i)) ∙ sym (evaluated-append truth r m (below p) p) ∙ ap (λ (n : ℕ). evaluatedAll truth r m (below n)) (sym (add-one p))
+    h
+    ∙ (λ i. evaluated truth (e i) (d i))
+    ∙ sym (evaluated-append truth r m (below p) p)
+    ∙ ap (λ (n : ℕ). evaluatedAll truth r m (below n)) (sym (add-one p))

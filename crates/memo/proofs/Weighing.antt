@@ -49,23 +49,30 @@ module _ (truth : ℕ → Bool) (r : Record) (c : ℕ) where
     left-skip b d e =
         record { same = h .same ∙ ap (tried truth r m) (rest-next c (r .«principal_count») p l ∙ rw (decided-not p c b d e) refl) }
 
-    module _ (b : Bool) (d : Decides b (In p c)) (e : b ≡ true) {f : ℕ} (is : f ≡ formulaOf r p) {k : Memo} (now : k ≡ evaluated truth m f) where
-      head-first : tried truth r start (members r c) ≡ tried truth r m (p ∷ rest c (r .«principal_count») (p + 1))
-      head-first = h .same ∙ ap (tried truth r m) (rest-next c (r .«principal_count») p l ∙ rw (in-member (d .yes e)) refl)
+    module _ (b : Bool) (d : Decides b (In p c)) (e : b ≡ true) {f : ℕ} (is : f ≡ formulaOf r p) {k : Memo} (now : k ≡ evaluated truth m f)
+      where
+        head-first : tried truth r start (members r c) ≡ tried truth r m (p ∷ rest c (r .«principal_count») (p + 1))
+        head-first = h .same ∙ ap (tried truth r m) (rest-next c (r .«principal_count») p l ∙ rw (in-member (d .yes e)) refl)
 
-      step : tried truth r m (p ∷ rest c (r .«principal_count») (p + 1)) ≡ cond (value k f) (tried truth r k (rest c (r .«principal_count») (p + 1))) (ends k)
-      unfolding tried
-      step = sym (λ i. cond (value ((now ∙ ap (evaluated truth m) is) i) (is i)) (tried truth r ((now ∙ ap (evaluated truth m) is) i) (rest c (r .«principal_count») (p + 1))) (ends ((now ∙ ap (evaluated truth m) is) i)))
+        step :
+            tried truth r m (p ∷ rest c (r .«principal_count») (p + 1))
+            ≡ cond (value k f) (tried truth r k (rest c (r .«principal_count») (p + 1))) (ends k)
+        unfolding tried
+        step =
+            sym (λ i. cond (value ((now ∙ ap (evaluated truth m) is) i) (is i))
+            (tried truth r ((now ∙ ap (evaluated truth m) is) i) (rest c (r .«principal_count») (p + 1)))
+            (ends ((now ∙ ap (evaluated truth m) is) i)))
 
-      pub left-on : value k f ≡ true → Left start (p + 1) k
-      left-on v = record { same = head-first ∙ step ∙ rw v refl }
+        pub left-on : value k f ≡ true → Left start (p + 1) k
+        left-on v = record { same = head-first ∙ step ∙ rw v refl }
 
-      pub left-ends : value k f ≡ false → ends k ≡ tried truth r start (members r c)
-      left-ends v = sym (head-first ∙ step ∙ rw v refl)
+        pub left-ends : value k f ≡ false → ends k ≡ tried truth r start (members r c)
+        left-ends v = sym (head-first ∙ step ∙ rw v refl)
 
   pub left-none : {start m : Memo} {p : ℕ} → r .«principal_count» ≤ p → Left start p m → survives m ≡ tried truth r start (members r c)
   unfolding tried
   left-none {start} {m} {p} l h =
       let long : length (below (r .«principal_count»)) ≡ r .«principal_count» = length-table (r .«principal_count») (λ (k : ℕ). k) in
       let past : length (below (r .«principal_count»)) ≤ p = omega arith in
-      sym (h .same ∙ ap (λ (ps : List ℕ). tried truth r m (those (λ k. member k c) ps)) (drop-of-length-le (below (r .«principal_count»)) past))
+      sym
+      (h .same ∙ ap (λ (ps : List ℕ). tried truth r m (those (λ k. member k c) ps)) (drop-of-length-le (below (r .«principal_count»)) past))

@@ -1,5 +1,5 @@
--- The steps of the two questions (document 01, "Questions and edits"), for any truth values of formulas: what evaluation enters into the memo,
--- the eager choice, the lazy walk over all candidates, and the same walk by searches that avoid what is known false.
+-- The steps of the two questions (document 01, "Questions and edits"), for any truth values of formulas: what evaluation enters
+-- into the memo, the eager choice, the lazy walk over all candidates, and the same walk by searches that avoid what is known false.
 use Prim.Native.Nat.{ℕ, zero, suc}
 use mathlib.Core.Bool.{Bool, true, false, not, cond, _&&_}
 use mathlib.Core.List.{List, [], _∷_}

@@ -85,7 +85,8 @@ any-part : (p q : ℕ → Bool) (l : List ℕ) → any p (those q l) ≡ true �
 any-part p q [] e = e
 any-part p q (x ∷ l) e = go (q x) e (any-part p q l)
   where
-    go : (b : Bool) → any p (cond b (x ∷ those q l) (those q l)) ≡ true → (any p (those q l) ≡ true → any p l ≡ true) → p x || any p l ≡ true
+    go : (b : Bool) → any p (cond b (x ∷ those q l) (those q l)) ≡ true → (any p (those q l) ≡ true → any p l ≡ true)
+        → p x || any p l ≡ true
     go true d ih = ⊎-elim (λ h. or-left (p x) _ h) (λ h. or-right (p x) _ (ih h)) (or-cases (p x) _ d)
     go false d ih = or-right (p x) _ (ih d)
 
@@ -129,7 +130,8 @@ module _ (p q : ℕ → Bool) (more : (x : ℕ) → p x ≡ true → q x ≡ tru
   fewer (x ∷ l) e = go (p x) (q x) (more x) e (fewer l) (no-more l)
     where
       go : (a b : Bool) → (a ≡ true → b ≡ true) → (not a && b) || any (λ y. not (p y) && q y) l ≡ true
-          → (any (λ y. not (p y) && q y) l ≡ true → lacking q l < lacking p l) → lacking q l ≤ lacking p l → lackingWith b q x l < lackingWith a p x l
+          → (any (λ y. not (p y) && q y) l ≡ true → lacking q l < lacking p l) → lacking q l ≤ lacking p l
+          → lackingWith b q x l < lackingWith a p x l
       go true true f d ih h = ih d
       go true false f d ih h = absurd (false≢true (f refl))
       go false true f d ih h = omega arith
@@ -150,7 +152,8 @@ FormulasInMemo r ps = All (λ p. formulaOf r p < 64) ps
 abbrev over : Record → Memo → ℕ → Bool
 over r m c = any (knownFalse r m) (members r c)
 
-pub search-free : (r : Record) (k : ℕ) (m : Memo) → least r k (λ p. not (knownFalse r m p)) ≡ firstOf (λ c. not (any (knownFalse r m) (members r c))) (candidates r k)
+pub search-free : (r : Record) (k : ℕ) (m : Memo)
+    → least r k (λ p. not (knownFalse r m p)) ≡ firstOf (λ c. not (any (knownFalse r m) (members r c))) (candidates r k)
 unfolding least
 search-free r k m =
     first-ext (λ c. every (λ p. not (knownFalse r m p)) (members r c)) (λ c. not (over r m c)) (candidates r k)
@@ -194,7 +197,8 @@ module _ (truth : ℕ → Bool) (r : Record) where
     is : value n f ≡ view m f
     same : Same m n
 
-  noted-view : (m : Memo) (f : ℕ) → MemoLengths m → f < 64 → known m f ≡ false → (g : ℕ) → Dec (g ≡ f) → view (noted m f (truth f)) g ≡ view m g
+  noted-view : (m : Memo) (f : ℕ) → MemoLengths m → f < 64 → known m f ≡ false → (g : ℕ) → Dec (g ≡ f)
+      → view (noted m f (truth f)) g ≡ view m g
   noted-view m f h l e g (yes q) = subst (λ (x : ℕ). view (noted m f (truth f)) x ≡ view m x) (sym q) at-f
     where
       at-f : view (noted m f (truth f)) f ≡ view m f
@@ -218,7 +222,8 @@ module _ (truth : ℕ → Bool) (r : Record) where
             knows = getD-set-same (m .known) f true false (let a = h .knowns in omega arith);
             is = getD-set-same (m .value) f (truth f) false (let a = h .values in omega arith) ∙ unknown-view m f e;
             same = record {
-              lengths = record { knowns = length-set (m .known) f true ∙ h .knowns; values = length-set (m .value) f (truth f) ∙ h .values };
+              lengths =
+                  record { knowns = length-set (m .known) f true ∙ h .knowns; values = length-set (m .value) f (truth f) ∙ h .values };
               views = λ g. noted-view m f h l e g (ℕ-discrete g f);
               keeps = noted-keeps m f (truth f) e;
             };
@@ -240,7 +245,8 @@ module _ (truth : ℕ → Bool) (r : Record) where
   Weighs m ps (survives n) = (passes m ps ≡ true) × Same m n
   Weighs m ps (ends n) = (any (knownFalse r n) ps ≡ true) × Same m n
 
-  weighs-on : {m n : Memo} (p : ℕ) (ps : List ℕ) (w : Weighed) → Same m n → view m (formulaOf r p) ≡ true → Weighs n ps w → Weighs m (p ∷ ps) w
+  weighs-on : {m n : Memo} (p : ℕ) (ps : List ℕ) (w : Weighed) → Same m n → view m (formulaOf r p) ≡ true → Weighs n ps w
+      → Weighs m (p ∷ ps) w
   weighs-on {m} {n} p ps (survives k) s e h = (and-both (view m (formulaOf r p)) _ e (sym (passes-same ps s) ∙ h .0), same-trans s (h .1))
   weighs-on {m} {n} p ps (ends k) s e h = (or-right (knownFalse r k p) _ (h .0), same-trans s (h .1))
 
@@ -256,7 +262,8 @@ module _ (truth : ℕ → Bool) (r : Record) where
       d : Evaluated m (formulaOf r p) n
       d = evaluates m (formulaOf r p) h (g .0)
 
-      go : (b : Bool) → value n (formulaOf r p) ≡ b → Weighs n ps (tried truth r n ps) → Weighs m (p ∷ ps) (cond b (tried truth r n ps) (ends n))
+      go : (b : Bool) → value n (formulaOf r p) ≡ b → Weighs n ps (tried truth r n ps)
+          → Weighs m (p ∷ ps) (cond b (tried truth r n ps) (ends n))
       go true e w = weighs-on p ps (tried truth r n ps) (d .same) (sym (d .is) ∙ e) w
       go false e w = (or-left (knownFalse r n p) _ (and-both (known n (formulaOf r p)) _ (d .knows) (ap not e)), d .same)
 
@@ -290,7 +297,8 @@ module _ (truth : ℕ → Bool) (r : Record) where
       let e = evaluates m (formulaOf r p) h (g .0) in
       same-trans (e .same) (all-through ps (evaluated truth m (formulaOf r p)) (e .same .lengths) (g .1))
 
-  pub all-known : (ps : List ℕ) (m : Memo) → MemoLengths m → FormulasInMemo r ps → All (λ p. known (evaluatedAll truth r m ps) (formulaOf r p) ≡ true) ps
+  pub all-known : (ps : List ℕ) (m : Memo) → MemoLengths m → FormulasInMemo r ps
+      → All (λ p. known (evaluatedAll truth r m ps) (formulaOf r p) ≡ true) ps
   unfolding evaluatedAll
   all-known [] m h g = tt
   all-known (p ∷ ps) m h g =
@@ -322,11 +330,13 @@ module _ (truth : ℕ → Bool) (r : Record) where
       where
         go : (w : Weighed) → Weighs m (members r c) w
             → ((n : Memo) → MemoLengths n → chosen (walk truth r n cs) ≡ firstOf (λ d. passes n (members r d)) cs)
-            → chosen (afterWeighing c w (λ after. walk truth r after cs)) ≡ cond (passes m (members r c)) (some c) (firstOf (λ d. passes m (members r d)) cs)
+            → chosen (afterWeighing c w (λ after. walk truth r after cs))
+            ≡ cond (passes m (members r c)) (some c) (firstOf (λ d. passes m (members r d)) cs)
         go (survives n) k ih = rw (k .0) refl
         go (ends n) k ih =
             rw (sym (passes-same (members r c) (k .1)) ∙ passed-over n (members r c) (k .0))
-            (ih n (k .1 .lengths) ∙ first-ext (λ d. passes n (members r d)) (λ d. passes m (members r d)) cs (λ d. passes-same (members r d) (k .1)))
+            (ih n (k .1 .lengths)
+            ∙ first-ext (λ d. passes n (members r d)) (λ d. passes m (members r d)) cs (λ d. passes-same (members r d) (k .1)))
 
     still-over : {m n : Memo} → Same m n → (c : ℕ) → over r m c ≡ true → over r n c ≡ true
     still-over {m} {n} s c = any-map (knownFalse r m) (knownFalse r n) (members r c) (λ p. still-false p s)
@@ -340,7 +350,8 @@ module _ (truth : ℕ → Bool) (r : Record) where
         go (survives n) k = refl
         go (ends n) k = next n (k .0) (k .1)
 
-    -- after candidates ds that are passed over, the walk tries the first free one of cs; if that ends, it is as good to walk over all of them again
+    -- after candidates ds that are passed over, the walk tries the first free one of cs; if that ends, it is as good to walk over
+    -- all of them again
     again : (ds cs : List ℕ) (m : Memo) → MemoLengths m → All (λ d. over r m d ≡ true) ds
         → walk truth r m cs ≡ tryNext truth r m (firstOf (λ c. not (over r m c)) cs) (λ after. walk truth r after (ds ++ cs))
     unfolding walk weighed
@@ -349,15 +360,18 @@ module _ (truth : ℕ → Bool) (r : Record) where
       where
         go : (b : Bool) → over r m c ≡ b
             → (All (λ d. over r m d ≡ true) (ds ++ (c ∷ []))
-            → walk truth r m cs ≡ tryNext truth r m (firstOf (λ d. not (over r m d)) cs) (λ after. walk truth r after ((ds ++ (c ∷ [])) ++ cs)))
+            → walk truth r m cs
+            ≡ tryNext truth r m (firstOf (λ d. not (over r m d)) cs) (λ after. walk truth r after ((ds ++ (c ∷ [])) ++ cs)))
             → afterWeighing c (cond b (ends m) (tried truth r m (members r c))) (λ after. walk truth r after cs)
             ≡ tryNext truth r m (cond (not b) (some c) (firstOf (λ d. not (over r m d)) cs)) (λ after. walk truth r after (ds ++ (c ∷ cs)))
         go true e ih =
             ih (all-append (λ d. over r m d ≡ true) ds (c ∷ []) a (e, tt))
-            ∙ ap (λ (l : List ℕ). tryNext truth r m (firstOf (λ d. not (over r m d)) cs) (λ after. walk truth r after l)) (append-assoc ds (c ∷ []) cs)
+            ∙ ap (λ (l : List ℕ). tryNext truth r m (firstOf (λ d. not (over r m d)) cs) (λ after. walk truth r after l))
+            (append-assoc ds (c ∷ []) cs)
         go false e ih =
             then c m h (λ after. walk truth r after cs) (λ after. walk truth r after (ds ++ (c ∷ cs))) (λ n o s.
-            sym (skipped n ds (c ∷ cs) (all-map (λ d. over r m d ≡ true) (λ d. over r n d ≡ true) ds (still-over s) a) ∙ skipped n (c ∷ []) cs (o, tt)))
+            sym (skipped n ds (c ∷ cs) (all-map (λ d. over r m d ≡ true) (λ d. over r n d ≡ true) ds (still-over s) a)
+            ∙ skipped n (c ∷ []) cs (o, tt)))
 
   -- both choose the same
   pub agree : (k : ℕ) (m : Memo) → FormulasInMemo r (below (r .«principal_count»)) → MemoLengths m
@@ -375,7 +389,8 @@ module _ (truth : ℕ → Bool) (r : Record) where
       values-are c =
           every-ext (λ p. value after (formulaOf r p)) (λ p. view m (formulaOf r p)) (members r c)
           (all-those (λ p. value after (formulaOf r p) ≡ view m (formulaOf r p)) (λ p. member p c) (below (r .«principal_count»))
-          (all-map (λ p. known after (formulaOf r p) ≡ true) (λ p. value after (formulaOf r p) ≡ view m (formulaOf r p)) (below (r .«principal_count»))
+          (all-map (λ p. known after (formulaOf r p) ≡ true) (λ p. value after (formulaOf r p) ≡ view m (formulaOf r p))
+          (below (r .«principal_count»))
           (λ p k. known-view after (formulaOf r p) k ∙ all-through (below (r .«principal_count»)) m h all .views (formulaOf r p))
           (all-known (below (r .«principal_count»)) m h all)))
 
@@ -405,7 +420,8 @@ module _ (truth : ℕ → Bool) (r : Record) where
     searches zero m h l = absurd (omega arith)
     searches (suc n) m h l =
         walk-again k m all h
-        ∙ go (least r k (λ p. not (knownFalse r m p))) (first-passes (λ c. every (λ p. not (knownFalse r m p)) (members r c)) (candidates r k)) (searches n)
+        ∙ go (least r k (λ p. not (knownFalse r m p)))
+        (first-passes (λ c. every (λ p. not (knownFalse r m p)) (members r c)) (candidates r k)) (searches n)
       where
         go : (o : Option ℕ) → Passing (λ c. every (λ p. not (knownFalse r m p)) (members r c)) o
             → ((x : Memo) → MemoLengths x → unsettled x < n → walk truth r x (candidates r k) ≡ searching n truth r k x)

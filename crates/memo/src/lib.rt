@@ -118,7 +118,8 @@ fn index(x: u8) -> usize
 // Each principal in rising number has its formula evaluated, unless known.
 pub fn evaluated_all(rules: Record, memo: Memo, roles: u16, question: Question) -> Memo
     requires { ⌜ ((j : Kind) → tableLoads rules j ≡ true) ⌝ }
-    ensures { λ r. ⌜ r ≡ evaluatedAll (trueAtObject rules roles (question .object) (question .requestor)) rules memo (below (rules .«principal_count»)) ⌝ }
+    ensures { λ r. ⌜ r ≡ evaluatedAll (trueAtObject rules roles (question .object) (question .requestor)) rules memo
+        (below (rules .«principal_count»)) ⌝ }
 {
     let count = rules.principal_count;
     let object = question.object;

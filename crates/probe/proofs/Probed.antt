@@ -40,7 +40,8 @@ module _ (text : List ℕ) (l : Loaded) (e : l ≡ load text) where
         go : 2 ≡ formulaAnswer l f o s
         go = rw (eq-eqb (l .number) 0 z, le-ltb f (l .rules .«formula_count») h) refl
 
-    pub formula-present : l .number ≡ 0 → f < l .rules .«formula_count» → (b : Bool) → b ≡ holds (l .rules) f o o s → cond b 1 0 ≡ probeFormula text f o s
+    pub formula-present : l .number ≡ 0 → f < l .rules .«formula_count» → (b : Bool) → b ≡ holds (l .rules) f o o s
+        → cond b 1 0 ≡ probeFormula text f o s
     unfolding formulaAnswer
     formula-present z h b t = ap (λ (x : Bool). cond x 1 0) t ∙ go ∙ formula-same
       where
@@ -65,7 +66,8 @@ module _ (text : List ℕ) (l : Loaded) (e : l ≡ load text) where
         go : 4294967294 ≡ leastAnswer l m allowed
         go = rw (eq-eqb (l .number) 0 z, le-ltb m (l .rules .«method_count») h) refl
 
-    pub method-present : l .number ≡ 0 → m < l .rules .«method_count» → setNumber (least (l .rules) m (λ p. member p allowed)) ≡ probeLeast text m allowed
+    pub method-present : l .number ≡ 0 → m < l .rules .«method_count»
+        → setNumber (least (l .rules) m (λ p. member p allowed)) ≡ probeLeast text m allowed
     unfolding leastAnswer
     method-present z h = go ∙ method-same
       where

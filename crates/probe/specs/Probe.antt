@@ -10,7 +10,8 @@ use Rattle.reading.specs.Loading.{load}
 use Rattle.formula.specs.Formula.{holds}
 use Rattle.justification.specs.Justification.{least}
 
--- 1 where formula f of what was loaded is true at the object o for the requestor s, else 0; 2: nothing was loaded, or there is no such formula
+-- 1 where formula f of what was loaded is true at the object o for the requestor s, else 0; 2: nothing was loaded, or there is no
+-- such formula
 unfoldable pub formulaAnswer : Loaded → ℕ → ℕ → ℕ → ℕ
 formulaAnswer l f o s = cond (eqb (l .number) 0 && ltb f (l .rules .«formula_count»)) (cond (holds (l .rules) f o o s) 1 0) 2
 
@@ -24,7 +25,8 @@ setNumber (some c) = c
 
 -- the least set for method m, of the principals in `allowed`; 4294967294: nothing was loaded, or there is no such method
 unfoldable pub leastAnswer : Loaded → ℕ → ℕ → ℕ
-leastAnswer l m allowed = cond (eqb (l .number) 0 && ltb m (l .rules .«method_count»)) (setNumber (least (l .rules) m (λ p. member p allowed))) 4294967294
+leastAnswer l m allowed =
+    cond (eqb (l .number) 0 && ltb m (l .rules .«method_count»)) (setNumber (least (l .rules) m (λ p. member p allowed))) 4294967294
 
 abbrev pub probeLeast : List ℕ → ℕ → ℕ → ℕ
 probeLeast text m allowed = leastAnswer (load text) m allowed

@@ -8,11 +8,14 @@ use Rattle.access.specs.declared.Answer.{Answer}
 use Rattle.replay.specs.Replay.{listedCallOf, answerTo}
 
 -- of the kind k
-pub answer-case : (r : Record) (kind k a b c : ℕ) {got : Answer} → kind ≡ k → got ≡ answerTo r (listedCallOf k a b c) → got ≡ answerTo r (listedCallOf kind a b c)
+pub answer-case : (r : Record) (kind k a b c : ℕ) {got : Answer} → kind ≡ k → got ≡ answerTo r (listedCallOf k a b c)
+    → got ≡ answerTo r (listedCallOf kind a b c)
 answer-case r kind k a b c e h = h ∙ ap (λ (n : ℕ). answerTo r (listedCallOf n a b c)) (sym e)
 
 -- of no kind that there is
-pub no-answer-case : (r : Record) (kind a b c : ℕ) → (kind ≡ 0 → ⊥) → (kind ≡ 1 → ⊥) → (kind ≡ 2 → ⊥) → (kind ≡ 3 → ⊥) → (kind ≡ 4 → ⊥) → (kind ≡ 5 → ⊥)
+pub no-answer-case : (r : Record) (kind a b c : ℕ) → (kind ≡ 0 → ⊥) → (kind ≡ 1 → ⊥) → (kind ≡ 2 → ⊥) → (kind ≡ 3 → ⊥) → (kind ≡ 4 → ⊥)
+    → (kind ≡ 5 → ⊥)
     → record { number = wrongKind; set = 0; evaluations = 0; rules = r } ≡ answerTo r (listedCallOf kind a b c)
 unfolding answerTo
-no-answer-case r kind a b c e f g h i j = rw (ne-eqb kind 0 e, ne-eqb kind 1 f, ne-eqb kind 2 g, ne-eqb kind 3 h, ne-eqb kind 4 i, ne-eqb kind 5 j)
+no-answer-case r kind a b c e f g h i j =
+    rw (ne-eqb kind 0 e, ne-eqb kind 1 f, ne-eqb kind 2 g, ne-eqb kind 3 h, ne-eqb kind 4 i, ne-eqb kind 5 j)

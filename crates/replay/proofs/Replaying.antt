@@ -18,7 +18,7 @@ length-replies r calls (suc n) =
     let a = answerTo (leftAfter r calls n) (listedCallAt calls n) in
     omega (arith, length-replies r calls n, length-append (replies r calls n) (answerOctets a))
 
--- i of n requests have been answered
+-- i of n calls have been answered
 pub record Replaying (calls buffer₀ : List ℕ) (r₀ : Record) (n : ℕ) (buffer : List ℕ) (r : Record) (i : ℕ) : Type 0 where
   pub bytes : buffer ≡ replies r₀ calls i ++ drop (5 * i) buffer₀
   pub left : r ≡ leftAfter r₀ calls i
@@ -35,7 +35,8 @@ whole-fit a b n e =
     let y : min (a / 4) (b / 5) ≤ b / 5 = min-le-right (a / 4) (b / 5) in
     (omega (arith, e, x), omega (arith, e, y))
 
-module _ {calls buffer₀ : List ℕ} {r₀ : Record} {n : ℕ} {buffer : List ℕ} {r : Record} {i : ℕ} (w : Replaying calls buffer₀ r₀ n buffer r i) (room : 5 * n ≤ length buffer₀) where
+module _ {calls buffer₀ : List ℕ} {r₀ : Record} {n : ℕ} {buffer : List ℕ} {r : Record} {i : ℕ} (w : Replaying calls buffer₀ r₀ n buffer r i)
+    (room : 5 * n ≤ length buffer₀) where
   pub replaying-length : length buffer ≡ length buffer₀
   replaying-length =
       ap length (w .bytes)
@@ -51,7 +52,8 @@ module _ {calls buffer₀ : List ℕ} {r₀ : Record} {n : ℕ} {buffer : List �
 
   -- one more
   pub replaying-more : (got : Answer) {after : List ℕ} → i < n → got ≡ answerTo r (listedCallAt calls i)
-      → after ≡ take (5 * i) buffer ++ (answerOctets got ++ drop (5 * i + 5) buffer) → Replaying calls buffer₀ r₀ n after (got .rules) (i + 1)
+      → after ≡ take (5 * i) buffer ++ (answerOctets got ++ drop (5 * i + 5) buffer)
+      → Replaying calls buffer₀ r₀ n after (got .rules) (i + 1)
   unfolding replies leftAfter
   replaying-more got {after} l e f =
       record {

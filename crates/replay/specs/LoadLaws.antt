@@ -1,4 +1,4 @@
--- Whether some bundle loads to a record is not changed by a request: one test does for a whole list.
+-- Whether some bundle loads to a record is not changed by a call: one test does for a whole list.
 use Prim.Native.Nat.{ℕ, zero, suc}
 use mathlib.Core.Path.{_≡_, refl, sym, _∙_, ap}
 use mathlib.Core.Bool.{Bool, true, false, not, cond, _&&_}
@@ -12,7 +12,8 @@ use Rattle.rows.specs.Checks.{causes}
 use Rattle.policy.specs.declared.Record.{Record}
 use Rattle.policy.specs.declared.Memo.{Memo}
 use Rattle.policy.specs.declared.Edited.{Edited}
-use Rattle.policy.specs.Table.{Kind, head, user, edge, formula, demarcation, hierarchy, principal, exclusion, prerequisite, method, end, kinds, count, columns, room, row, rows, emptied, changed, withMemo}
+use Rattle.policy.specs.Table.{Kind, head, user, edge, formula, demarcation, hierarchy, principal, exclusion, prerequisite, method, end}
+use Rattle.policy.specs.Table.{kinds, count, columns, room, row, rows, emptied, changed, withMemo}
 use Rattle.policy.specs.Height.{height}
 use Rattle.policy.specs.Rows.{inRange, rowCauses, rowRefusal}
 use Rattle.policy.specs.Loadable.{zeroFrom, tableLoads, loadable}
@@ -35,7 +36,9 @@ module _ (r : Record) (m : Memo) where
   unfolding height withMemo
   height-aside zero f = refl
   height-aside (suc n) f =
-      λ j. cond (eqb f n) (heightOf (opOf (at (r .«formula_ops») f)) (at (r .«formula_lefts») f) (at (r .«formula_rights») f) (λ g. height-aside n g j)) (height-aside n f j)
+      λ j. cond (eqb f n)
+      (heightOf (opOf (at (r .«formula_ops») f)) (at (r .«formula_lefts») f) (at (r .«formula_rights») f) (λ g. height-aside n g j))
+      (height-aside n f j)
 
   formula-aside : (i : ℕ) → rowRefusal formula i s (row formula i s) ≡ rowRefusal formula i r (row formula i r)
   unfolding rowRefusal rowCauses inRange withMemo
@@ -87,12 +90,14 @@ edit-loads r n es m accepted = go (eqb n 0) refl
 add-loads : (r : Record) (l x y : ℕ) → loadable (added r l x y .rules) ≡ loadable r
 unfolding added
 add-loads r l x y =
-    edit-loads r (addRefusal r l x y) (inserted (l ∷ x ∷ y ∷ []) (rows edge r)) (memoLeft r l) (λ ok. added-loadable r l x y ok ∙ sym (adds r l x y ok .loads))
+    edit-loads r (addRefusal r l x y) (inserted (l ∷ x ∷ y ∷ []) (rows edge r)) (memoLeft r l)
+    (λ ok. added-loadable r l x y ok ∙ sym (adds r l x y ok .loads))
 
 remove-loads : (r : Record) (l x y : ℕ) → loadable (removed r l x y .rules) ≡ loadable r
 unfolding removed
 remove-loads r l x y =
-    edit-loads r (removeRefusal r l x y) (without (l ∷ x ∷ y ∷ []) (rows edge r)) (memoLeft r l) (λ ok. removed-loadable r l x y ok ∙ sym (removes r l x y ok .loads))
+    edit-loads r (removeRefusal r l x y) (without (l ∷ x ∷ y ∷ []) (rows edge r)) (memoLeft r l)
+    (λ ok. removed-loadable r l x y ok ∙ sym (removes r l x y ok .loads))
 
 -- a question
 answered-loads : (r : Record) (before : Memo) (x : Outcome) → loadable (answered r before x .rules) ≡ loadable r
@@ -112,7 +117,8 @@ unfolding answerTo eager lazy
 answer-loads r (call (add l x y)) = add-loads r l x y
 answer-loads r (call (remove l x y)) = remove-loads r l x y
 answer-loads r (call (askEagerly q)) =
-    asked-loads r (questionRefusal r q) (memoFor (r .memo) q) (eagerly r (q .method) (evaluatedAll (truthAt r q) r (memoFor (r .memo) q) (below (r .«principal_count»))))
+    asked-loads r (questionRefusal r q) (memoFor (r .memo) q)
+    (eagerly r (q .method) (evaluatedAll (truthAt r q) r (memoFor (r .memo) q) (below (r .«principal_count»))))
 answer-loads r (call (askLazily q)) =
     asked-loads r (questionRefusal r q) (memoFor (r .memo) q) (walk (truthAt r q) r (memoFor (r .memo) q) (candidates r (q .method)))
 answer-loads r (liberally q) = refl

@@ -1,4 +1,4 @@
--- Lists of requests as octets, and what answering them one after another comes to: the octets of the answers, and the record left.
+-- Lists of calls as octets, and what answering them one after another comes to: the octets of the answers, and the record left.
 use Prim.Native.Nat.{ℕ, zero, suc, _+_, _*_, _/_, min}
 use mathlib.Core.Bool.{cond}
 use mathlib.Core.List.{List, [], _∷_, _++_}
@@ -17,7 +17,7 @@ use Rattle.access.specs.declared.Answer.{Answer}
 use Rattle.access.specs.Access.{eager, lazy}
 use Rattle.history.specs.Book.{Call, add, remove, askEagerly, askLazily}
 
--- a request: a call of demand 3, one of the predicates, or no kind that there is
+-- a call as it is listed: a call of demand 3, one of the predicates, or no kind that there is
 pub data ListedCall : Type 0 where
   call : Call → ListedCall
   liberally strictly : Question → ListedCall
@@ -44,7 +44,7 @@ editAnswer e = record { number = e .number; set = 0; evaluations = 0; rules = e 
 abbrev pub verdictAnswer : Record → Verdict → Answer
 verdictAnswer r v = record { number = v .number; set = cond (v .yes) 1 0; evaluations = 0; rules = r }
 
--- what a request answers, and the record that it leaves; a kind above 5 is answered with 4 and changes nothing
+-- what a call answers, and the record that it leaves; a kind above 5 is answered with 4 and changes nothing
 unfoldable pub answerTo : Record → ListedCall → Answer
 answerTo r (call (add l x y)) = editAnswer (added r l x y)
 answerTo r (call (remove l x y)) = editAnswer (removed r l x y)
@@ -58,11 +58,11 @@ answerTo r unknown = record { number = wrongKind; set = 0; evaluations = 0; rule
 abbrev pub answerOctets : Answer → List ℕ
 answerOctets a = (a .number ∷ []) ++ (inOctets 3 (a .set) ++ (a .evaluations ∷ []))
 
--- request i of the octets
+-- call i of the octets
 abbrev pub listedCallAt : List ℕ → ℕ → ListedCall
 listedCallAt calls i = listedCallOf (at calls (4 * i)) (at calls (4 * i + 1)) (at calls (4 * i + 2)) (at calls (4 * i + 3))
 
--- the record after the first n requests, and the octets of their answers
+-- the record after the first n calls, and the octets of their answers
 unfoldable pub leftAfter : Record → List ℕ → ℕ → Record
 leftAfter r calls zero = r
 leftAfter r calls (suc n) = answerTo (leftAfter r calls n) (listedCallAt calls n) .rules
@@ -71,7 +71,7 @@ unfoldable pub replies : Record → List ℕ → ℕ → List ℕ
 replies r calls zero = []
 replies r calls (suc n) = replies r calls n ++ answerOctets (answerTo (leftAfter r calls n) (listedCallAt calls n))
 
--- as many requests are answered as are whole and fit; bytes past the answers stay
+-- as many calls are answered as are whole and fit; bytes past the answers stay
 abbrev pub answeredCount : List ℕ → List ℕ → ℕ
 answeredCount calls buffer = min (length calls / 4) (length buffer / 5)
 

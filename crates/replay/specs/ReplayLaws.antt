@@ -1,11 +1,13 @@
--- What replaying holdsEdge to do with demand 3: its requests are a list of calls, between which predicates and unknown kinds change nothing.
+-- What replaying has to do with demand 3: its calls are a list of calls, between which predicates and unknown kinds change
+-- nothing.
 use Prim.Native.Nat.{ℕ, zero, suc}
 use mathlib.Core.Path.{_≡_, refl, sym, _∙_, ap, subst}
 use mathlib.Core.List.{List, [], _∷_, _++_}
 use Rattle.policy.specs.declared.Record.{Record}
 use Rattle.policy.specs.Table.{edge, rows}
 use Rattle.reading.specs.Loading.{load}
-use Rattle.history.specs.Book.{Call, add, remove, askEagerly, askLazily, Book, plain, bookAfterCall, bookAnswer, bookAfter, numberAndSet, engineLeaves, engineAfter}
+use Rattle.history.specs.Book.{Call, add, remove, askEagerly, askLazily, Book, plain, bookAfterCall, bookAnswer, bookAfter, numberAndSet}
+use Rattle.history.specs.Book.{engineLeaves, engineAfter}
 use Rattle.history.specs.Agrees.{Agrees}
 use Rattle.history.specs.EditAgrees.{add-number, remove-number}
 use Rattle.history.specs.AskAgrees.{eager-answer, lazy-answer}
@@ -13,14 +15,14 @@ use Rattle.history.specs.Demand3.{CallHolds}
 use Rattle.history.specs.Theorem.{call-holds, call-agrees, start}
 use Rattle.replay.specs.Replay.{ListedCall, call, liberally, strictly, unknown, answerTo, listedCallAt, leftAfter}
 
--- the call that a request is; a predicate and an unknown kind are none
+-- the call of demand 3 that a listed call is; a predicate and an unknown kind are none
 abbrev pub bookCallsOf : ListedCall → List Call
 bookCallsOf (call c) = c ∷ []
 bookCallsOf (liberally q) = []
 bookCallsOf (strictly q) = []
 bookCallsOf unknown = []
 
--- the calls among the first n requests, in order
+-- those among the first n listed calls, in order
 unfoldable pub callsBefore : List ℕ → ℕ → List Call
 callsBefore calls zero = []
 callsBefore calls (suc n) = callsBefore calls n ++ bookCallsOf (listedCallAt calls n)
@@ -56,14 +58,15 @@ list-agrees b [] book r h = h
 list-agrees b (c ∷ cs) book r h = list-agrees b cs (bookAfterCall b book c) (engineLeaves r c) (call-agrees b book r h c)
 
 -- the book's reply is answered
-answer-is : (b : Record) (book : Book) (r : Record) → Agrees b book r → (c : Call) → numberAndSet (answerTo r (call c)) ≡ bookAnswer b book c
+answer-is : (b : Record) (book : Book) (r : Record) → Agrees b book r → (c : Call)
+    → numberAndSet (answerTo r (call c)) ≡ bookAnswer b book c
 unfolding answerTo bookAnswer
 answer-is b book r h (add l x y) = ap (λ (k : ℕ). plain k) (add-number b book r h l x y)
 answer-is b book r h (remove l x y) = ap (λ (k : ℕ). plain k) (remove-number b book r h l x y)
 answer-is b book r h (askEagerly q) = eager-answer b book r h q
 answer-is b book r h (askLazily q) = lazy-answer b book r h q
 
--- ---- a record just loaded, and any octets of requests
+-- ---- a record just loaded, and any octets of calls
 
 module _ (text : List ℕ) (loads : load text .number ≡ 0) (calls : List ℕ) (n : ℕ) where
   abbrev b : Record
@@ -80,5 +83,7 @@ module _ (text : List ℕ) (loads : load text .number ≡ 0) (calls : List ℕ) 
   point-holds c = call-holds b book (leftAfter b calls n) agrees c
 
   -- and its answer's number and set are the book's
-  pub point-answers : (c : Call) → listedCallAt calls n ≡ call c → numberAndSet (answerTo (leftAfter b calls n) (listedCallAt calls n)) ≡ bookAnswer b book c
-  point-answers c e = ap (λ (x : ListedCall). numberAndSet (answerTo (leftAfter b calls n) x)) e ∙ answer-is b book (leftAfter b calls n) agrees c
+  pub point-answers : (c : Call) → listedCallAt calls n ≡ call c
+      → numberAndSet (answerTo (leftAfter b calls n) (listedCallAt calls n)) ≡ bookAnswer b book c
+  point-answers c e =
+      ap (λ (x : ListedCall). numberAndSet (answerTo (leftAfter b calls n) x)) e ∙ answer-is b book (leftAfter b calls n) agrees c

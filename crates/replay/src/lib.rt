@@ -1,4 +1,5 @@
-// Lists of requests, answered one after another, each on the record that those before it left. The theorem of demand 3 over such lists stands in specs/.
+// Lists of calls, answered one after another, each on the record that those before it left. The theorem of demand 3 over such
+// lists stands in specs/.
 
 ghost use mathlib.Core.Path.{_≡_};
 ghost use mathlib.Core.List.{[], _∷_, _++_};
@@ -46,7 +47,7 @@ fn verdict_answer(rules: Record, verdict: Verdict) -> Answer
     }
 }
 
-// The question of a request: method, object, requestor.
+// The question of a call: method, object, requestor.
 fn question_of(a: u8, b: u8, c: u8) -> Question
     ensures { λ r. ⌜ r ≡ questionOf a b c ⌝ }
 {
@@ -57,7 +58,7 @@ fn question_of(a: u8, b: u8, c: u8) -> Question
     }
 }
 
-// Answers one request: 0 add, 1 remove, 2 eager, 3 lazy, 4 liberal, 5 strict; a kind above 5 is answered with 4.
+// Answers one call: 0 add, 1 remove, 2 eager, 3 lazy, 4 liberal, 5 strict; a kind above 5 is answered with 4.
 pub fn answer(rules: Record, kind: u8, a: u8, b: u8, c: u8) -> Answer
     ensures { λ r. ⌜ r ≡ answerTo rules (listedCallOf kind a b c) ⌝ }
 {
@@ -92,7 +93,7 @@ fn answer_given(rules: Record, loads: bool, kind: u8, a: u8, b: u8, c: u8) -> An
     }
 }
 
-// How many requests are whole in the calls and have room in the answers.
+// How many calls are whole in the calls and have room in the answers.
 fn answerable(calls: usize, answers: usize) -> usize
     ensures { λ r. ⌜ r ≡ min (calls / 4) (answers / 5) ⌝ }
 {
@@ -107,7 +108,9 @@ fn answerable(calls: usize, answers: usize) -> usize
 // Puts an answer's five octets at a place: number, set in 3 octets, evaluations.
 fn put_answer(answers: &mut [u8], place: usize, number: u8, set: u32, evaluations: u8)
     requires { ⌜ place + 5 ≤ length (now answers) ⌝ }
-    ensures { λ _. ⌜ now (answers .exit) ≡ take place (now (answers .entry)) ++ (((number ∷ []) ++ (inOctets 3 set ++ (evaluations ∷ []))) ++ drop (place + 5) (now (answers .entry))) ⌝ }
+    ensures { λ _. ⌜ now (answers .exit)
+        ≡ take place (now (answers .entry)) ++
+        (((number ∷ []) ++ (inOctets 3 set ++ (evaluations ∷ []))) ++ drop (place + 5) (now (answers .entry))) ⌝ }
 {
     answers[place] = number;
     answers[place + 1] = (set / 256 / 256 % 256) as u8;
@@ -116,9 +119,10 @@ fn put_answer(answers: &mut [u8], place: usize, number: u8, set: u32, evaluation
     answers[place + 4] = evaluations;
 }
 
-// Answers the requests in turn, and returns how many. No request changes whether some bundle loads to the record: one test does for all.
+// Answers the calls in turn, and returns how many. No call changes whether some bundle loads to the record: one test does for all.
 pub fn replay(rules: Record, calls: &[u8], answers: &mut [u8]) -> usize
-    ensures { λ r. ⌜ (r ≡ answeredCount (now (calls .entry)) (now (answers .entry))) × (now (answers .exit) ≡ bufferAfter rules (now (calls .entry)) (now (answers .entry))) ⌝ }
+    ensures { λ r. ⌜ (r ≡ answeredCount (now (calls .entry)) (now (answers .entry)))
+        × (now (answers .exit) ≡ bufferAfter rules (now (calls .entry)) (now (answers .entry))) ⌝ }
 {
     let n = answerable(calls.len(), answers.len());
     let loads = policy::loadable::loadable(rules);

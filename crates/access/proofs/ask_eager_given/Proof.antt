@@ -107,7 +107,8 @@ module _ (l : tie.After-least) where
       → answered (start made .args .t1) (made .memo-for .result) (outcome (evaluated .evaluated-all .result) (found x))
       ≡ eager (start made .args .t1) (start made .args .question)
   case e =
-      ap (λ (x : Found). answered (start made .args .t1) (made .memo-for .result) (outcome (evaluated .evaluated-all .result) (found x))) (sym e)
+      ap (λ (x : Found). answered (start made .args .t1) (made .memo-for .result) (outcome (evaluated .evaluated-all .result) (found x)))
+      (sym e)
       ∙ whole
 
 returns-2 : tie.Need-returns-2

@@ -22,7 +22,8 @@ use Rattle.access.proofs.ask_lazy_given.Tie as tie
 
 abbrev Inv-loop : tie.InvT-loop
 Inv-loop loads question rules number before s roles method masks count memo₀ rounds₀ memo rounds =
-    Round (trueAtObject rules roles (question .object) (question .requestor)) rules (question .method) before rounds memo × (rounds ≤ count + 1)
+    Round (trueAtObject rules roles (question .object) (question .requestor)) rules (question .method) before rounds memo
+    × (rounds ≤ count + 1)
 
 abbrev μ-loop : tie.MeasureT-loop
 μ-loop loads question rules number before s roles method masks count memo₀ rounds₀ memo rounds = count + 1 - rounds
@@ -87,7 +88,8 @@ module _ (a : tie.At-loop Inv-loop μ-loop) where
       (searching (entry .args .t1 .«principal_count» + 1) truth (entry .args .t1) (entry .args .question .method) (made .memo-for .result))
       ≡ lazy (entry .args .t1) (entry .args .question)
   whole =
-      lazy-answer (entry .args .t1) (entry .args .question) (tables made) (no-refusal made) (roles-found .roles-of .result) (roles-found .roles-of .ensures)
+      lazy-answer (entry .args .t1) (entry .args .question) (tables made) (no-refusal made) (roles-found .roles-of .result)
+      (roles-found .roles-of .ensures)
       (made .memo-for .ensures .0) (made .memo-for .ensures .1)
 
 -- in a round: the least candidate among those not known false
@@ -102,7 +104,8 @@ module _ (l : tie.After-least-among Inv-loop μ-loop) where
       ≡ least (entry at-loop .args .t1) (entry at-loop .args .question .method) (λ p. member p (l .before .not-known-false .result))
   next-is =
       l .least-among .ensures (entry at-loop .args .t1) (at-loop .before .before .index .result) 0 (at-loop .before .masks-of .ensures)
-      ∙ ap (λ (k : ℕ). least (entry at-loop .args .t1) k (λ p. member p (l .before .not-known-false .result))) (at-loop .before .before .index .ensures)
+      ∙ ap (λ (k : ℕ). least (entry at-loop .args .t1) k (λ p. member p (l .before .not-known-false .result)))
+      (at-loop .before .before .index .ensures)
 
 not-known-false-requires : tie.Need-not-known-false-requires Inv-loop μ-loop
 not-known-false-requires c κs =
@@ -163,10 +166,11 @@ loop-again : tie.Need-loop-again Inv-loop μ-loop
 loop-again c =
     let w = c .before .before in
     let l = w .before .before .before .before in
-    let a = at-loop l in
-    (round-ended _ _ _ _ (in-loop l .loop-test .taken) (a .loop .inv .0) (l .before .not-known-false .ensures) (next-is l)
-    (ap found (w .before .before .c .given .1)) (w .weigh .result) (w .weigh .ensures) (c .before .if2 .left),
-    omega (arith, in-loop l .loop-test .taken))
+    let a = at-loop l in (
+      round-ended _ _ _ _ (in-loop l .loop-test .taken) (a .loop .inv .0) (l .before .not-known-false .ensures) (next-is l)
+          (ap found (w .before .before .c .given .1)) (w .weigh .result) (w .weigh .ensures) (c .before .if2 .left),
+      omega (arith, in-loop l .loop-test .taken),
+    )
 
 denied-requires-2 : tie.Need-denied-requires-2 Inv-loop μ-loop
 denied-requires-2 c κs = search needs

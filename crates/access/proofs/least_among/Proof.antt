@@ -9,7 +9,19 @@ least-requires : tie.Need-least-requires
 least-requires c κs = search needs
 
 returns : tie.Need-returns
-returns c = λ r m a k. least-masked r m (c .before .args .allowed) _ (record { few = k .few; count = k .count; permitted = refl; excludes = k .excludes; needed = k .needed; needs = k .needs; grants = k .grants; every = k .every; wanted = k .wanted; bounded = k .bounded }) (c .least .result) (c .least .ensures)
+returns c =
+    λ r m a k. least-masked r m (c .before .args .allowed) _ (record {
+      few = k .few;
+      count = k .count;
+      permitted = refl;
+      excludes = k .excludes;
+      needed = k .needed;
+      needs = k .needs;
+      grants = k .grants;
+      every = k .every;
+      wanted = k .wanted;
+      bounded = k .bounded;
+    }) (c .least .result) (c .least .ensures)
 
 pub least-among-spec : {M : Type 1} → statement M
 least-among-spec = tie.close (tie.spec least-requires returns)

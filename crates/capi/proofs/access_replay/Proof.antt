@@ -12,8 +12,11 @@ packed-requires : tie.Need-packed-requires
 packed-requires c κs = search needs
 
 returns : tie.Need-returns
-returns c = let l = c .before .before .before in
-    (c .packed .ensures ∙ replay-refused (l .load .ensures) _ _ (c .before .if1 .taken), replay-left (l .load .ensures) _ _ (c .before .if1 .taken))
+returns c = let l = c .before .before .before in (
+  c .packed .ensures
+      ∙ replay-refused (l .load .ensures) _ _ (c .before .if1 .taken),
+  replay-left (l .load .ensures) _ _ (c .before .if1 .taken),
+)
 
 replay-requires : tie.Need-replay-requires
 replay-requires c κs = search needs
@@ -27,8 +30,12 @@ same-length c = search needs
 returns-2 : tie.Need-returns-2
 returns-2 c = let w = c .before .before .before in
     let e = w .before .before .before in
-    let l = e .before .before in
-    (c .packed2 .ensures ∙ replay-answered (l .load .ensures) _ _ (e .if1 .left) (w .replay .ensures .0), replay-buffer (l .load .ensures) _ _ (e .if1 .left) (w .replay .ensures .1))
+    let l = e .before .before in (
+      c .packed2 .ensures
+          ∙ replay-answered (l .load .ensures) _ _ (e .if1 .left) (w .replay .ensures .0),
+      replay-buffer (l .load .ensures) _ _ (e .if1 .left)
+          (w .replay .ensures .1),
+    )
 
 pub access-replay-spec : {M : Type 1} → statement M
 access-replay-spec =

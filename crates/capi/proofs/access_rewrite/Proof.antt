@@ -13,8 +13,11 @@ packed-requires c κs = search needs
 
 returns : tie.Need-returns
 returns c =
-    let l = c .before .before .before in
-    (c .packed .ensures ∙ rewrite-refused (l .load .ensures) _ (c .before .if1 .taken), rewrite-left (l .load .ensures) _ (c .before .if1 .taken))
+    let l = c .before .before .before in (
+      c .packed .ensures
+          ∙ rewrite-refused (l .load .ensures) _ (c .before .if1 .taken),
+      rewrite-left (l .load .ensures) _ (c .before .if1 .taken),
+    )
 
 write-requires : tie.Need-write-requires
 write-requires c κs = search needs
@@ -29,8 +32,12 @@ returns-2 : tie.Need-returns-2
 returns-2 c =
     let w = c .before .before .before in
     let e = w .before .before .before in
-    let l = e .before .before in
-    (c .packed2 .ensures ∙ rewrite-written (l .load .ensures) _ (e .if1 .left) (w .write .ensures .answers), rewrite-buffer (l .load .ensures) _ (e .if1 .left) (w .write .ensures .buffer))
+    let l = e .before .before in (
+      c .packed2 .ensures
+          ∙ rewrite-written (l .load .ensures) _ (e .if1 .left) (w .write .ensures .answers),
+      rewrite-buffer (l .load .ensures) _ (e .if1 .left)
+          (w .write .ensures .buffer),
+    )
 
 pub access-rewrite-spec : {M : Type 1} → statement M
 access-rewrite-spec =

@@ -1,4 +1,5 @@
--- Evaluation and edge scan call each other, the formula number falling: the measures are 2n for `evaluate` below n, 2f + 1 for `connective` and `scan_edges` at formula f.
+-- Evaluation and edge scan call each other, the formula number falling: the measures are 2n for `evaluate` below n, 2f + 1 for
+-- `connective` and `scan_edges` at formula f.
 use Prim.Native.Nat.{ℕ, _+_, _*_, _<_}
 use mathlib.Core.Path.{refl}
 use native.Mathlib.Omega.{arith}
@@ -56,13 +57,40 @@ abbrev scan-edges-below : ℕ → In 2 scan-edges-kinds.ps
 scan-edges-below t = and 2 scan-edges-kinds.ps (falls 2 scan-edges-kinds.ps _<_ μ-scan-edges t) scan-edges.Pre
 
 abbrev connective-claims : ℕ → connective-lts.Claims
-connective-claims t = (index-reads.Asked, index-reads.Learnt, evaluate-below t, evaluate.Post, minus-reads.Asked, minus-reads.Learnt, union-reads.Asked, union-reads.Learnt)
+connective-claims t = (
+  index-reads.Asked,
+  index-reads.Learnt,
+  evaluate-below t,
+  evaluate.Post,
+  minus-reads.Asked,
+  minus-reads.Learnt,
+  union-reads.Asked,
+  union-reads.Learnt,
+)
 
 abbrev evaluate-claims : ℕ → evaluate-lts.Claims
-evaluate-claims t = (none-reads.Asked, none-reads.Learnt, scan-edges-below t, scan-edges.Post, plain-reads.Asked, plain-reads.Learnt, connective-below t, connective.Post)
+evaluate-claims t = (
+  none-reads.Asked,
+  none-reads.Learnt,
+  scan-edges-below t,
+  scan-edges.Post,
+  plain-reads.Asked,
+  plain-reads.Learnt,
+  connective-below t,
+  connective.Post,
+)
 
 abbrev scan-edges-claims : ℕ → scan-edges-lts.Claims
-scan-edges-claims t = (index-reads.Asked, index-reads.Learnt, ends-from-reads.Asked, ends-from-reads.Learnt, evaluate-below t, evaluate.Post, starts-to-reads.Asked, starts-to-reads.Learnt)
+scan-edges-claims t = (
+  index-reads.Asked,
+  index-reads.Learnt,
+  ends-from-reads.Asked,
+  ends-from-reads.Learnt,
+  evaluate-below t,
+  evaluate.Post,
+  starts-to-reads.Asked,
+  starts-to-reads.Learnt,
+)
 
 module _ (t : ℕ) (s : connective-lts.Start (connective-claims t) (connective-at t) connective.Post) where
   -- the formulas and the context that a call of `connective` is given
@@ -75,13 +103,15 @@ module _ (t : ℕ) (s : connective-lts.Start (connective-claims t) (connective-a
 connective-element-copy-out-op : (t : ℕ) → connective-lts.Need-element-copy-out-op (connective-claims t) (connective-at t) connective.Post
 connective-element-copy-out-op t c = search needs
 
-connective-element-copy-out-index : (t : ℕ) → connective-lts.Need-element-copy-out-index (connective-claims t) (connective-at t) connective.Post
+connective-element-copy-out-index : (t : ℕ)
+    → connective-lts.Need-element-copy-out-index (connective-claims t) (connective-at t) connective.Post
 connective-element-copy-out-index t c = search needs
 
 connective-index-requires : (t : ℕ) → connective-lts.Need-index-requires (connective-claims t) (connective-at t) connective.Post
 connective-index-requires t c κs = search needs
 
-connective-element-copy-out-index-2 : (t : ℕ) → connective-lts.Need-element-copy-out-index-2 (connective-claims t) (connective-at t) connective.Post
+connective-element-copy-out-index-2 : (t : ℕ)
+    → connective-lts.Need-element-copy-out-index-2 (connective-claims t) (connective-at t) connective.Post
 connective-element-copy-out-index-2 t c = search needs
 
 connective-index-requires-2 : (t : ℕ) → connective-lts.Need-index-requires-2 (connective-claims t) (connective-at t) connective.Post
@@ -173,7 +203,8 @@ evaluate-returns-2 t c =
     let read = c .before .before in
     let s = read .before .before in
     true-below (evaluate-formulas t s) (evaluate-context t s) (s .args .f) (s .args .asked .now) (s .args .n) (read .before .if1 .left)
-    (forward (evaluate-formulas t s) (evaluate-context t s) (s .args .f) (s .args .asked .now) (c .before .match .keys1) (c .scan-edges .ensures))
+    (forward (evaluate-formulas t s) (evaluate-context t s) (s .args .f) (s .args .asked .now) (c .before .match .keys1)
+    (c .scan-edges .ensures))
 
 evaluate-returns-3 : (t : ℕ) → evaluate-lts.Need-returns-3 (evaluate-claims t) (evaluate-at t) evaluate.Post
 evaluate-returns-3 t c =
@@ -181,7 +212,8 @@ evaluate-returns-3 t c =
     let s = read .before .before in
     true-below (evaluate-formulas t s) (evaluate-context t s) (s .args .f) (s .args .asked .now) (s .args .n) (read .before .if1 .left)
     (backward (evaluate-formulas t s) (evaluate-context t s) (s .args .f) (s .args .asked .now)
-    (s .args .q .«edge_count») (s .args .labels .now) (s .args .from .now) (s .args .to .now) refl (c .before .match .keys2) (c .scan-edges2 .ensures))
+    (s .args .q .«edge_count») (s .args .labels .now) (s .args .from .now) (s .args .to .now) refl (c .before .match .keys2)
+    (c .scan-edges2 .ensures))
 
 evaluate-returns-4 : (t : ℕ) → evaluate-lts.Need-returns-4 (evaluate-claims t) (evaluate-at t) evaluate.Post
 evaluate-returns-4 t c =
@@ -215,7 +247,8 @@ module _ (t : ℕ) (s : scan-edges-lts.Start (scan-edges-claims t) (scan-edges-a
 scan-edges-element-copy-out-a : (t : ℕ) → scan-edges-lts.Need-element-copy-out-a (scan-edges-claims t) (scan-edges-at t) scan-edges.Post
 scan-edges-element-copy-out-a t c = search needs
 
-scan-edges-element-copy-out-index : (t : ℕ) → scan-edges-lts.Need-element-copy-out-index (scan-edges-claims t) (scan-edges-at t) scan-edges.Post
+scan-edges-element-copy-out-index : (t : ℕ)
+    → scan-edges-lts.Need-element-copy-out-index (scan-edges-claims t) (scan-edges-at t) scan-edges.Post
 scan-edges-element-copy-out-index t c = search needs
 
 scan-edges-index-requires : (t : ℕ) → scan-edges-lts.Need-index-requires (scan-edges-claims t) (scan-edges-at t) scan-edges.Post
@@ -237,7 +270,8 @@ scan-edges-returns t c =
     let b = reached .before in
     let s = b .before .before .before in
     let a = s .args in
-    scanned (edgesIn (a .q .«edge_count») (a .labels .now) (a .starts .now) (a .ends .now)) (at (a .lefts .now) (a .f)) (at (a .rights .now) (a .f))
+    scanned (edgesIn (a .q .«edge_count») (a .labels .now) (a .starts .now) (a .ends .now)) (at (a .lefts .now) (a .f))
+    (at (a .rights .now) (a .f))
     (trueBelow (scan-edges-formulas t s) (scan-edges-context t s) (a .f))
     (b .index .ensures .0) (reached .ends-from .ensures) (found .evaluate .ensures) (c .starts-to .ensures)
 

@@ -10,7 +10,8 @@ use Rattle.formula.proofs.holds_role.Tie as tie
 -- a number of 16 bits has no bit at 16 or above
 returns : tie.Need-returns
 returns c =
-    let h : c .before .args .roles / 2 ^ c .before .args .a ≡ 0 = div-eq-of-lt (lt-of-lt-of-le (c .before .fits .roles .fits) (pow-mono (c .if1 .taken))) in
+    let h : c .before .args .roles / 2 ^ c .before .args .a ≡ 0 = div-eq-of-lt
+    (lt-of-lt-of-le (c .before .fits .roles .fits) (pow-mono (c .if1 .taken))) in
     rw h
 
 shr-result : tie.Need-shr-result

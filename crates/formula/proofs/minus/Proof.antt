@@ -41,8 +41,12 @@ loop-less c = search needs
 loop-again : tie.Need-loop-again Inv-loop μ-loop
 loop-again c =
     let l = c .before in
-    let a = l .before .before .args in
-    (filled (λ v. isIn (a .t1) v && not (isIn (a .t2) v)) (l .loop .r) (l .loop .i) (omega arith) (l .loop .inv .0), simp length-set (l .loop .inv .1), omega arith)
+    let a = l .before .before .args in (
+      filled (λ v. isIn (a .t1) v && not (isIn (a .t2) v)) (l .loop .r) (l .loop .i) (omega arith) (l .loop .inv .0),
+      simp length-set
+          (l .loop .inv .1),
+      omega arith,
+    )
 
 returns : tie.Need-returns Inv-loop μ-loop
 returns c =

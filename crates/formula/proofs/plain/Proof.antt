@@ -23,7 +23,8 @@ none-requires c κs = search needs
 
 returns : tie.Need-returns
 unfolding meaning
-returns c = λ edges b part. record { members = λ v. rw (c .before .match .keys1) (sym (and-true (isIn (c .before .before .args .asked .now) v))) }
+returns c =
+    λ edges b part. record { members = λ v. rw (c .before .match .keys1) (sym (and-true (isIn (c .before .before .args .asked .now) v))) }
 
 returns-2 : tie.Need-returns-2
 unfolding meaning
@@ -46,14 +47,20 @@ unfolding meaning
 returns-4 c =
     let held = c .before .before in
     let asked = start held .args .asked .now in
-    λ edges b part. record { members = λ v. rw (role-op held) (sym (ap (λ (x : Bool). isIn asked v && x) (sym (held .holds-role .ensures) ∙ c .before .if1 .taken) ∙ and-true (isIn asked v))) }
+    λ edges b part. record {
+      members = λ v. rw (role-op held)
+          (sym (ap (λ (x : Bool). isIn asked v && x) (sym (held .holds-role .ensures) ∙ c .before .if1 .taken) ∙ and-true (isIn asked v)));
+    }
 
 returns-5 : tie.Need-returns-5
 unfolding meaning
 returns-5 c =
     let held = c .before .before in
     let asked = start held .args .asked .now in
-    λ edges b part. record { members = λ v. rw (role-op held) (c .none .ensures .1 v ∙ sym (ap (λ (x : Bool). isIn asked v && x) (sym (held .holds-role .ensures) ∙ c .before .if1 .left) ∙ and-false (isIn asked v))) }
+    λ edges b part. record {
+      members = λ v. rw (role-op held) (c .none .ensures .1 v
+          ∙ sym (ap (λ (x : Bool). isIn asked v && x) (sym (held .holds-role .ensures) ∙ c .before .if1 .left) ∙ and-false (isIn asked v)));
+    }
 
 pub plain-spec : {M : Type 1} → statement M
 plain-spec =

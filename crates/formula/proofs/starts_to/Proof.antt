@@ -13,7 +13,8 @@ use Rattle.formula.proofs.starts_to.Statement.{statement}
 use Rattle.formula.proofs.starts_to.Tie as tie
 
 abbrev Inv-loop : tie.InvT-loop
-Inv-loop n labels label starts ends asked found r₀ i₀ r i = ((v : ℕ) → isIn r v ≡ (isIn asked v && leads (edgesIn i labels starts ends) 1 2 label (isIn found) v)) × (length r ≡ 256) × (i ≤ n)
+Inv-loop n labels label starts ends asked found r₀ i₀ r i =
+    ((v : ℕ) → isIn r v ≡ (isIn asked v && leads (edgesIn i labels starts ends) 1 2 label (isIn found) v)) × (length r ≡ 256) × (i ≤ n)
 
 abbrev μ-loop : tie.MeasureT-loop
 μ-loop n labels label starts ends asked found r₀ i₀ r i = n - i
@@ -63,8 +64,13 @@ loop-again c =
     let x = y .before .before in
     let l = x .before .before .before in
     let a = l .before .before .args in
-    let h : x .index .result < length (l .loop .r) = omega arith in
-    (λ v. starts-more (a .labels .now) (a .starts .now) (a .ends .now) (a .label) (a .asked .now) (l .loop .r) (l .loop .i) (x .index .result) (y .index2 .result) (x .index .ensures .0) (y .index2 .ensures .0) v (a .found .now) h (l .loop .inv .0 v), simp length-set (l .loop .inv .1), omega arith)
+    let h : x .index .result < length (l .loop .r) = omega arith in (
+      λ v. starts-more (a .labels .now) (a .starts .now) (a .ends .now) (a .label) (a .asked .now) (l .loop .r) (l .loop .i)
+          (x .index .result) (y .index2 .result) (x .index .ensures .0) (y .index2 .ensures .0) v (a .found .now) h (l .loop .inv .0 v),
+      simp
+          length-set (l .loop .inv .1),
+      omega arith,
+    )
 
 returns : tie.Need-returns Inv-loop μ-loop
 returns c =

@@ -41,8 +41,12 @@ loop-less c = search needs
 loop-again : tie.Need-loop-again Inv-loop μ-loop
 loop-again c =
     let l = c .before in
-    let a = l .before .before .args in
-    (filled (λ v. isIn (a .t1) v || isIn (a .t2) v) (l .loop .r) (l .loop .i) (omega arith) (l .loop .inv .0), simp length-set (l .loop .inv .1), omega arith)
+    let a = l .before .before .args in (
+      filled (λ v. isIn (a .t1) v || isIn (a .t2) v) (l .loop .r) (l .loop .i) (omega arith) (l .loop .inv .0),
+      simp length-set
+          (l .loop .inv .1),
+      omega arith,
+    )
 
 returns : tie.Need-returns Inv-loop μ-loop
 returns c =
@@ -50,7 +54,8 @@ returns c =
     let a = l .before .before .args in
     everywhere (λ v. isIn (a .t1) v || isIn (a .t2) v) (l .loop .r) (l .loop .inv .1)
     (λ v h. l .loop .inv .0 v (omega arith))
-    (λ v h. rw (beyond (a .t1) 256 v (l .before .before .good .0 .1 .0 .1) h, beyond (a .t2) 256 v (l .before .before .good .1 .0 .1 .0 .1) h))
+    (λ v h. rw
+    (beyond (a .t1) 256 v (l .before .before .good .0 .1 .0 .1) h, beyond (a .t2) 256 v (l .before .before .good .1 .0 .1 .0 .1) h))
 
 pub union-spec : {M : Type 1} → statement M
 union-spec =

@@ -37,8 +37,12 @@ loop-less : tie.Need-loop-less Inv-loop μ-loop
 loop-less c = search needs
 
 loop-again : tie.Need-loop-again Inv-loop μ-loop
-loop-again c = let l = c .before .before in
-    (stored (λ k s. Marks (l .before .args .n) (λ i. getD (getD (l .before .args .c) i []) k false) s) (l .loop .sets) (l .loop .j) _ (omega arith) (l .loop .inv .0) (c .«column-set» .ensures), simp length-set (l .loop .inv .1), omega arith)
+loop-again c = let l = c .before .before in (
+  stored (λ k s. Marks (l .before .args .n) (λ i. getD (getD (l .before .args .c) i []) k false) s) (l .loop .sets) (l .loop .j) _
+      (omega arith) (l .loop .inv .0) (c .«column-set» .ensures),
+  simp length-set (l .loop .inv .1),
+  omega arith,
+)
 
 returns : tie.Need-returns Inv-loop μ-loop
 returns c = λ j l. c .before .loop .inv .0 j (omega arith)

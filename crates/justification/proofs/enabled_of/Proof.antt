@@ -33,7 +33,8 @@ is-enabled : (r : Record) (q : Question) (p : ℕ)
 unfolding isEnabled
 is-enabled r q p = refl
 
--- the places passed: the function's entry from the loop, the index of a formula from where the columns were lent, the loop's test from there
+-- the places passed: the function's entry from the loop, the index of a formula from where the columns were lent, the loop's test
+-- from there
 abbrev entry : tie.At-loop Inv-loop μ-loop → tie.Start Inv-loop μ-loop
 entry a = a .before .before .before .before .before
 
@@ -82,13 +83,16 @@ loop-again c =
     let a = entry (i .before) .args in
     let is =
     t .true-at-object .ensures
-    ∙ ap (λ (f : ℕ). trueAtObject (a .t1) (i .before .before .roles-of .result) (a .question .object) (a .question .requestor) f) (x .index .ensures) in
-    (those-more (i .before .loop .inv .0) (t .true-at-object .result)
-    (record {
-      yes = λ e. (h .has .ensures .yes (x .before .before .if1 .taken), sym is ∙ e);
-      no = λ e y. false≢true (sym e ∙ is ∙ y .1);
-    })
-    (c .marked .ensures), omega (arith, i .loop-test .taken))
+    ∙ ap (λ (f : ℕ). trueAtObject (a .t1) (i .before .before .roles-of .result) (a .question .object) (a .question .requestor) f)
+    (x .index .ensures) in (
+      those-more (i .before .loop .inv .0) (t .true-at-object .result)
+          (record {
+            yes = λ e. (h .has .ensures .yes (x .before .before .if1 .taken), sym is ∙ e);
+            no = λ e y. false≢true (sym e ∙ is ∙ y .1);
+          })
+          (c .marked .ensures),
+      omega (arith, i .loop-test .taken),
+    )
 
 loop-less-2 : tie.Need-loop-less-2 Inv-loop μ-loop
 loop-less-2 c = search needs
@@ -105,11 +109,12 @@ returns c =
     let r = s .args .t1 in
     let q = s .args .question in
     let roles = a .before .roles-of .result in
-    let same : (p : ℕ) → p < r .«principal_count» → trueAtObject r roles (q .object) (q .requestor) (at (r .«principal_formulas») p) ≡ isEnabled r q p =
+    let same : (p : ℕ) → p < r .«principal_count» → trueAtObject r roles (q .object) (q .requestor) (at (r .«principal_formulas») p) ≡
+    isEnabled r q p =
     λ p l.
-        true-at-holds r (at (r .«principal_formulas») p) (q .object) (q .requestor) roles (a .before .roles-of .ensures)
-        (principal-named r (s .pre) p l .0) (table-few r formula (s .pre formula))
-        ∙ is-enabled r q p in
+    true-at-holds r (at (r .«principal_formulas») p) (q .object) (q .requestor) roles (a .before .roles-of .ensures)
+    (principal-named r (s .pre) p l .0) (table-few r formula (s .pre formula))
+    ∙ is-enabled r q p in
     let found = those-end {n = r .«principal_count»} (omega (arith, c .loop-test .left, a .loop .inv .1)) (a .loop .inv .0) in
     record {
       only = λ p i. let (l, x) = found .only p i in (l, (x .0, sym (same p l) ∙ x .1));

@@ -46,9 +46,11 @@ loop-less c = search needs
 
 loop-again : tie.Need-loop-again Inv-loop μ-loop
 loop-again c =
-    let i = in-loop (c .before) in
-    (excludes-more _ _ (i .before .loop .inv .0) (c .before .before .before .index .ensures) (c .before .index2 .ensures) (c .with-exclusion .ensures),
-    omega (arith, i .loop-test .taken))
+    let i = in-loop (c .before) in (
+      excludes-more _ _ (i .before .loop .inv .0) (c .before .before .before .index .ensures) (c .before .index2 .ensures)
+          (c .with-exclusion .ensures),
+      omega (arith, i .loop-test .taken),
+    )
 
 returns : tie.Need-returns Inv-loop μ-loop
 returns c =

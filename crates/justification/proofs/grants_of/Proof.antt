@@ -18,13 +18,17 @@ use Rattle.justification.proofs.grants_of.Statement.{statement}
 use Rattle.justification.proofs.grants_of.Tie as tie
 
 abbrev Inv-loop : tie.InvT-loop
-Inv-loop rules demarcations below lists n grants₀ p₀ grants p = ((k : ℕ) → k < p → (j : ℕ) → (In j (at grants k) ↔ (demarcationHas rules (at (rules .«principal_demarcations») k) j ≡ true))) × (length grants ≡ 20) × (p ≤ n)
+Inv-loop rules demarcations below lists n grants₀ p₀ grants p =
+    ((k : ℕ) → k < p → (j : ℕ) → (In j (at grants k) ↔ (demarcationHas rules (at (rules .«principal_demarcations») k) j ≡ true)))
+    × (length grants ≡ 20) × (p ≤ n)
 
 abbrev μ-loop : tie.MeasureT-loop
 μ-loop rules demarcations below lists n grants₀ p₀ grants p = n - p
 
 leading-to-requires : tie.Need-leading-to-requires Inv-loop μ-loop
-leading-to-requires c κs = let s = c .before .before in (hierarchy-pairs (s .args .t1) ∙ s .pre hierarchy, table-few (s .args .t1) demarcation (s .pre demarcation))
+leading-to-requires c κs =
+    let s = c .before .before in
+    (hierarchy-pairs (s .args .t1) ∙ s .pre hierarchy, table-few (s .args .t1) demarcation (s .pre demarcation))
 
 loop-holds : tie.Need-loop-holds Inv-loop μ-loop
 loop-holds c = (λ k l. absurd (omega arith), refl, omega arith)
@@ -84,7 +88,8 @@ loop-again c =
     let d = principal-named r (s .pre) (l .loop .p) (omega arith) .1 in
     let marks = l .before .before .«leading-to» .ensures (c .before .index .result) (omega (arith, e)) in
     let new = demarcation-gathers r (c .before .index .result) _ (c .gathered .result) marks (c .gathered .ensures) in (
-      stored (λ k g. (j : ℕ) → (In j g ↔ (demarcationHas r (at (r .«principal_demarcations») k) j ≡ true))) (l .loop .grants) (l .loop .p) (c .gathered .result) (omega arith) (l .loop .inv .0)
+      stored (λ k g. (j : ℕ) → (In j g ↔ (demarcationHas r (at (r .«principal_demarcations») k) j ≡ true))) (l .loop .grants) (l .loop .p)
+          (c .gathered .result) (omega arith) (l .loop .inv .0)
           (subst (λ (d : ℕ). (j : ℕ) → (In j (c .gathered .result) ↔ (demarcationHas r d j ≡ true))) e new),
       simp length-set (l .loop .inv .1),
       omega arith,

@@ -12,7 +12,10 @@ least-requires : tie.Need-least-requires
 least-requires c κs = let k = c .«masks-of» .ensures in omega (arith, k .few, k .count)
 
 returns : tie.Need-returns
-returns c = let s = c .before .before in least-masked (s .args .rules) (s .args .method) (s .args .allowed) (c .before .«masks-of» .result) (c .before .«masks-of» .ensures) (c .least .result) (c .least .ensures)
+returns c =
+    let s = c .before .before in
+    least-masked (s .args .rules) (s .args .method) (s .args .allowed) (c .before .«masks-of» .result) (c .before .«masks-of» .ensures)
+    (c .least .result) (c .least .ensures)
 
 pub least-spec : {M : Type 1} → statement M
 least-spec = tie.close (tie.spec masks-of-requires least-requires returns)

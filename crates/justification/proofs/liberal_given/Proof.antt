@@ -73,8 +73,10 @@ returns-2 c =
     let s = start h in
     let r = s .args .t1 in
     liberal-is r _ (sym (h .before .if1 .left) ∙ h .before .before .«question-refusal» .ensures) (c .meets .result)
-    (liberal-yes r (s .args .question) (m .meeting .result) (e .«enabled-of» .result) (gr .«grants-of» .result) (gr .«grants-of» .ensures) (e .«enabled-of» .ensures)
-    (h .index .ensures) (l .listed .ensures .0) (l .listed .ensures .1) (m .meeting .ensures) (g .gathered .result) (c .meets .result) (g .gathered .ensures) (c .meets .ensures))
+    (liberal-yes r (s .args .question) (m .meeting .result) (e .«enabled-of» .result) (gr .«grants-of» .result) (gr .«grants-of» .ensures)
+    (e .«enabled-of» .ensures)
+    (h .index .ensures) (l .listed .ensures .0) (l .listed .ensures .1) (m .meeting .ensures) (g .gathered .result) (c .meets .result)
+    (g .gathered .ensures) (c .meets .ensures))
 
 pub liberal-given-spec : {M : Type 1} → statement M
 liberal-given-spec =

@@ -37,7 +37,11 @@ loop-less : tie.Need-loop-less Inv-loop μ-loop
 loop-less c = search needs
 
 loop-again : tie.Need-loop-again Inv-loop μ-loop
-loop-again c = (those-more (c .before .before .before .loop .inv .0) (c .before .meets .result) (c .before .meets .ensures) (c .marked .ensures), omega arith)
+loop-again c = (
+  those-more (c .before .before .before .loop .inv .0) (c .before .meets .result) (c .before .meets .ensures) (c .marked .ensures),
+  omega
+      arith,
+)
 
 returns : tie.Need-returns Inv-loop μ-loop
 returns c = those-end (omega arith) (c .before .loop .inv .0)

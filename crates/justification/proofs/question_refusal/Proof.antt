@@ -46,14 +46,18 @@ returns-4 c =
     let e3 = c .before .before .before .before in
     let e2 = second-passed e3 in
     not-user _ _ (loads (first-passed e2)) (e2 .if2 .left) (e3 .if3 .left)
-    (sym (user-in (entry e2 .args .t1) (entry e2 .args .question .requestor)) ∙ sym (c .before .is-user .ensures) ∙ not-true _ (c .if4 .taken))
+    (sym (user-in (entry e2 .args .t1) (entry e2 .args .question .requestor))
+    ∙ sym (c .before .is-user .ensures)
+    ∙ not-true _ (c .if4 .taken))
 
 returns-5 : tie.Need-returns-5
 returns-5 c =
     let e3 = c .before .before .before .before in
     let e2 = second-passed e3 in
     may-ask _ _ (loads (first-passed e2)) (e2 .if2 .left) (e3 .if3 .left)
-    (sym (user-in (entry e2 .args .t1) (entry e2 .args .question .requestor)) ∙ sym (c .before .is-user .ensures) ∙ not-false _ (c .if4 .left))
+    (sym (user-in (entry e2 .args .t1) (entry e2 .args .question .requestor))
+    ∙ sym (c .before .is-user .ensures)
+    ∙ not-false _ (c .if4 .left))
 
 pub question-refusal-spec : {M : Type 1} → statement M
 question-refusal-spec =

@@ -65,7 +65,8 @@ returns-2 c =
     let s = start h in
     let r = s .args .t1 in
     strict-is r _ (sym (h .before .if1 .left) ∙ h .before .before .«question-refusal» .ensures) _
-    (strict-yes r (s .args .question) (m .meeting .result) (c .«enabled-of» .result) (gr .«grants-of» .result) (gr .«grants-of» .ensures) (c .«enabled-of» .ensures)
+    (strict-yes r (s .args .question) (m .meeting .result) (c .«enabled-of» .result) (gr .«grants-of» .result) (gr .«grants-of» .ensures)
+    (c .«enabled-of» .ensures)
     (h .index .ensures) (l .listed .ensures .0) (l .listed .ensures .1) (m .meeting .ensures))
 
 pub strict-given-spec : {M : Type 1} → statement M

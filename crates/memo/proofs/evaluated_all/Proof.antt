@@ -64,9 +64,11 @@ loop-again : tie.Need-loop-again Inv-loop μ-loop
 loop-again c =
     let x = lent (c .before) in
     let i = in-loop x in
-    let l = i .before in
-    (evaluated-more _ (l .before .args .t1) (l .before .args .memo) (l .loop .p) (l .loop .inv .0) (x .index .ensures) (c .evaluated .ensures),
-    omega (arith, i .loop-test .taken))
+    let l = i .before in (
+      evaluated-more _ (l .before .args .t1) (l .before .args .memo) (l .loop .p) (l .loop .inv .0) (x .index .ensures)
+          (c .evaluated .ensures),
+      omega (arith, i .loop-test .taken),
+    )
 
 returns : tie.Need-returns Inv-loop μ-loop
 returns c =
@@ -74,7 +76,8 @@ returns c =
     let s = l .before .args in
     let e : l .loop .p ≡ s .t1 .«principal_count» = omega (arith, c .loop-test .left, l .loop .inv .1) in
     l .loop .inv .0
-    ∙ ap (λ (n : ℕ). evaluatedAll (trueAtObject (s .t1) (s .roles) (s .question .object) (s .question .requestor)) (s .t1) (s .memo) (below n)) e
+    ∙ ap
+    (λ (n : ℕ). evaluatedAll (trueAtObject (s .t1) (s .roles) (s .question .object) (s .question .requestor)) (s .t1) (s .memo) (below n)) e
 
 pub evaluated-all-spec : {M : Type 1} → statement M
 evaluated-all-spec =

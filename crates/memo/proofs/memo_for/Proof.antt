@@ -18,11 +18,14 @@ emptied-requires : tie.Need-emptied-requires
 emptied-requires c κs = search needs
 
 -- a memo has a index for each formula, by its type
-length-of : (n : ℕ) (c : List Bool) (vs : List Val) → shadow (array-field bool-field n .row .own (map (λ (v : Bool). v) c) vs) → length c ≡ n
+length-of : (n : ℕ) (c : List Bool) (vs : List Val) → shadow (array-field bool-field n .row .own (map (λ (v : Bool). v) c) vs)
+    → length c ≡ n
 length-of n c vs p = ap length (sym (map-id c)) ∙ p .1 .0 .1
 
 lengths : (s : tie.Start) → MemoLengths (s .args .memo)
-lengths s = let f = s .good .0 .1 .1 .1 .1 in record { knowns = length-of 64 (s .args .memo .known) _ (f .0); values = length-of 64 (s .args .memo .value) _ (f .1 .0) }
+lengths s =
+    let f = s .good .0 .1 .1 .1 .1 in
+    record { knowns = length-of 64 (s .args .memo .known) _ (f .0); values = length-of 64 (s .args .memo .value) _ (f .1 .0) }
 
 -- past the first test; and the function's entry, from there
 abbrev same-object : tie.Else2 → tie.Else1

@@ -34,7 +34,8 @@ loop-less : tie.Need-loop-less Inv-loop μ-loop
 loop-less c = search needs
 
 loop-again : tie.Need-loop-again Inv-loop μ-loop
-loop-again c = (counted-more _ _ (c .before .before .before .before .loop .inv .0) (c .counted .ensures .0) (c .counted .ensures .1), omega arith)
+loop-again c =
+    (counted-more _ _ (c .before .before .before .before .loop .inv .0) (c .counted .ensures .0) (c .counted .ensures .1), omega arith)
 
 returns : tie.Need-returns Inv-loop μ-loop
 returns c = counted-all _ _ (c .before .loop .inv .0) (omega arith)

@@ -54,9 +54,10 @@ loop-again : tie.Need-loop-again Inv-loop μ-loop
 loop-again c =
     let x = c .before .before .before in
     let i = in-loop x in
-    let m = i .before .before .args .t3 in
-    (marks-more (i .before .loop .inv .0) _ (ap (λ (f : ℕ). not (known m f && not (value m f))) (x .index .ensures)) (c .marked .ensures),
-    omega (arith, i .loop-test .taken))
+    let m = i .before .before .args .t3 in (
+      marks-more (i .before .loop .inv .0) _ (ap (λ (f : ℕ). not (known m f && not (value m f))) (x .index .ensures)) (c .marked .ensures),
+      omega (arith, i .loop-test .taken),
+    )
 
 returns : tie.Need-returns Inv-loop μ-loop
 returns c = marks-end (omega arith) (c .before .loop .inv .0)

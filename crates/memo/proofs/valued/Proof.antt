@@ -46,9 +46,10 @@ loop-less c = search needs
 loop-again : tie.Need-loop-again Inv-loop μ-loop
 loop-again c =
     let x = c .before .before in
-    let i = in-loop x in
-    (marks-more (i .before .loop .inv .0) _ (ap (λ (f : ℕ). value (i .before .before .args .t3) f) (x .index .ensures)) (c .marked .ensures),
-    omega (arith, i .loop-test .taken))
+    let i = in-loop x in (
+      marks-more (i .before .loop .inv .0) _ (ap (λ (f : ℕ). value (i .before .before .args .t3) f) (x .index .ensures)) (c .marked .ensures),
+      omega (arith, i .loop-test .taken),
+    )
 
 returns : tie.Need-returns Inv-loop μ-loop
 returns c = marks-end (omega arith) (c .before .loop .inv .0)

@@ -78,18 +78,21 @@ loop-again c =
     let v = c .before .before in
     let x = lent (v .before) in
     let h = tested x in
-    let i = h .before in
-    (left-on _ _ _ (i .loop-test .taken) (i .before .loop .inv .0) (h .has .result) (h .has .ensures) (x .before .before .if1 .taken)
-    (x .index .ensures) (v .evaluated .ensures) (not-false _ (c .if2 .left)), omega (arith, i .loop-test .taken))
+    let i = h .before in (
+      left-on _ _ _ (i .loop-test .taken) (i .before .loop .inv .0) (h .has .result) (h .has .ensures) (x .before .before .if1 .taken)
+          (x .index .ensures) (v .evaluated .ensures) (not-false _ (c .if2 .left)),
+      omega (arith, i .loop-test .taken),
+    )
 
 loop-less-2 : tie.Need-loop-less-2 Inv-loop μ-loop
 loop-less-2 c = search needs
 
 loop-again-2 : tie.Need-loop-again-2 Inv-loop μ-loop
 loop-again-2 c =
-    let i = c .before .before in
-    (left-skip _ _ _ (i .loop-test .taken) (i .before .loop .inv .0) (c .before .has .result) (c .before .has .ensures) (c .if1 .left),
-    omega (arith, i .loop-test .taken))
+    let i = c .before .before in (
+      left-skip _ _ _ (i .loop-test .taken) (i .before .loop .inv .0) (c .before .has .result) (c .before .has .ensures) (c .if1 .left),
+      omega (arith, i .loop-test .taken),
+    )
 
 returns-2 : tie.Need-returns-2 Inv-loop μ-loop
 returns-2 c = left-none _ _ _ (c .loop-test .left) (c .before .loop .inv .0)

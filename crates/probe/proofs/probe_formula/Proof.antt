@@ -63,7 +63,8 @@ answers c =
     let r = loaded h .load .result .rules in
     let at : h .before .before .index .result ≡ s .args .formula = h .before .before .index .ensures in
     let there : s .args .formula < r .«formula_count» = omega (arith, h .if2 .left, at) in
-    formula-present _ _ (loaded h .load .ensures) (s .args .formula) (s .args .object) (s .args .requestor) (h .before .before .before .before .if1 .left) there
+    formula-present _ _ (loaded h .load .ensures) (s .args .formula) (s .args .object) (s .args .requestor)
+    (h .before .before .before .before .if1 .left) there
     (c .true-at-object .result)
     (c .true-at-object .ensures
     ∙ true-at-holds r (h .before .before .index .result) (s .args .object) (s .args .requestor) (o .roles-of .result) (o .roles-of .ensures)

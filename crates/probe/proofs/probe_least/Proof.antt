@@ -35,7 +35,9 @@ least-requires : tie.Need-least-requires
 least-requires c κs = (loaded-tables _ _ (loaded c .load .ensures) (c .before .before .before .before .if1 .left), c .if2 .left)
 
 -- what the search found is the answer
-answers : (c : tie.After-least) → let s = loaded (c .before) .before .before in setNumber (found (c .least .result)) ≡ probeLeast (s .args .bundle .now) (s .args .method) (s .args .allowed)
+answers : (c : tie.After-least) → let s =
+    loaded (c .before) .before .before in setNumber (found (c .least .result))
+    ≡ probeLeast (s .args .bundle .now) (s .args .method) (s .args .allowed)
 answers c =
     let h = c .before in
     let s = loaded h .before .before in

@@ -58,14 +58,16 @@ unfolding answerTo
 returns c =
     let m = c .before .before in
     let a = m .before .args in
-    answer-case (a .rules) (a .kind) 0 (a .a) (a .b) (a .c) (m .match .keys1) (c .edit-answer .ensures ∙ ap (λ (x : Edited). editAnswer x) (c .before .add-edge-given .ensures))
+    answer-case (a .rules) (a .kind) 0 (a .a) (a .b) (a .c) (m .match .keys1)
+    (c .edit-answer .ensures ∙ ap (λ (x : Edited). editAnswer x) (c .before .add-edge-given .ensures))
 
 returns-2 : tie.Need-returns-2
 unfolding answerTo
 returns-2 c =
     let m = c .before .before in
     let a = m .before .args in
-    answer-case (a .rules) (a .kind) 1 (a .a) (a .b) (a .c) (m .match .keys2) (c .edit-answer2 .ensures ∙ ap (λ (x : Edited). editAnswer x) (c .before .remove-edge-given .ensures))
+    answer-case (a .rules) (a .kind) 1 (a .a) (a .b) (a .c) (m .match .keys2)
+    (c .edit-answer2 .ensures ∙ ap (λ (x : Edited). editAnswer x) (c .before .remove-edge-given .ensures))
 
 returns-3 : tie.Need-returns-3
 unfolding answerTo
@@ -107,7 +109,8 @@ returns-7 : tie.Need-returns-7
 returns-7 c =
     let a = c .before .args in
     let n = c .match .rest in
-    no-answer-case (a .rules) (a .kind) (a .a) (a .b) (a .c) (n .0 .0 .0 .0 .0 .1) (n .0 .0 .0 .0 .1) (n .0 .0 .0 .1) (n .0 .0 .1) (n .0 .1) (n .1)
+    no-answer-case (a .rules) (a .kind) (a .a) (a .b) (a .c) (n .0 .0 .0 .0 .0 .1) (n .0 .0 .0 .0 .1) (n .0 .0 .0 .1) (n .0 .0 .1) (n .0 .1)
+    (n .1)
 
 pub answer-given-spec : {M : Type 1} → statement M
 answer-given-spec =

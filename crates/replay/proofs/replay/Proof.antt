@@ -21,8 +21,10 @@ abbrev μ-loop : tie.MeasureT-loop
 abbrev entry : tie.In-loop Inv-loop μ-loop → tie.Start Inv-loop μ-loop
 entry c = c .before .before .before .before .before .before
 
--- the requests to answer are whole, and fit
-fits : (c : tie.In-loop Inv-loop μ-loop) → (4 * c .before .before .before .answerable .result ≤ length (entry c .args .calls .now)) × (5 * c .before .before .before .answerable .result ≤ length (entry c .args .answers .now))
+-- the calls to answer are whole, and fit
+fits : (c : tie.In-loop Inv-loop μ-loop)
+    → (4 * c .before .before .before .answerable .result ≤ length (entry c .args .calls .now))
+    × (5 * c .before .before .before .answerable .result ≤ length (entry c .args .answers .now))
 fits c = whole-fit _ _ _ (c .before .before .before .answerable .ensures)
 
 answerable-requires : tie.Need-answerable-requires Inv-loop μ-loop
@@ -62,13 +64,27 @@ answer-given-requires : tie.Need-answer-given-requires Inv-loop μ-loop
 answer-given-requires c κs = c .before .before .before .before .before .loop .inv .1
 
 mul-put-answer : tie.Need-mul-put-answer Inv-loop μ-loop
-mul-put-answer c = omega (arith, fits (c .before .before .before .before .before .before) .1, entry (c .before .before .before .before .before .before) .good .1 .1 .0)
+mul-put-answer c =
+    omega (
+      arith,
+      fits (c .before .before .before .before .before .before) .1,
+      entry (c .before .before .before .before .before .before) .good .1
+          .1 .0,
+    )
 
 put-answer-requires : tie.Need-put-answer-requires Inv-loop μ-loop
-put-answer-requires c κs = let h = c .before .before .before .before .before .before in omega (arith, fits h .1, replaying-length (h .before .loop .inv .0) (fits h .1))
+put-answer-requires c κs =
+    let h = c .before .before .before .before .before .before in
+    omega (arith, fits h .1, replaying-length (h .before .loop .inv .0) (fits h .1))
 
 add-i : tie.Need-add-i Inv-loop μ-loop
-add-i c = omega (arith, fits (c .before .before .before .before .before .before .before .before .before .before) .1, entry (c .before .before .before .before .before .before .before .before .before .before) .good .1 .1 .0)
+add-i c =
+    omega (
+      arith,
+      fits (c .before .before .before .before .before .before .before .before .before .before) .1,
+      entry
+          (c .before .before .before .before .before .before .before .before .before .before) .good .1 .1 .0,
+    )
 
 loop-less : tie.Need-loop-less Inv-loop μ-loop
 loop-less c = omega arith
@@ -78,15 +94,22 @@ loop-again c =
     let h = c .before .before .before .before .before .before .before .before .before .before in
     let got = c .before .before .before .before .before .answer-given in
     let at-loop = h .before .loop .inv in (
-      replaying-more (at-loop .0) (fits h .1) (got .result) (h .loop-test .taken) (got .ensures) (c .before .before .before .put-answer .ensures),
+      replaying-more (at-loop .0) (fits h .1) (got .result) (h .loop-test .taken) (got .ensures)
+          (c .before .before .before .put-answer .ensures),
       at-loop .1 ∙ sym (ap (λ (x : Answer). loadable (x .rules)) (got .ensures) ∙ answer-loads _ _),
     )
 
 same-length : tie.Need-same-length Inv-loop μ-loop
-same-length c = let s = c .before .before .before in replaying-length (c .before .loop .inv .0) (whole-fit _ _ _ (s .answerable .ensures) .1)
+same-length c =
+    let s = c .before .before .before in replaying-length (c .before .loop .inv .0) (whole-fit _ _ _ (s .answerable .ensures) .1)
 
 returns : tie.Need-returns Inv-loop μ-loop
-returns c = let s = c .before .before .before in (s .answerable .ensures, replaying-end (c .before .loop .inv .0) (whole-fit _ _ _ (s .answerable .ensures) .1) (c .loop-test .left) (s .answerable .ensures))
+returns c =
+    let s = c .before .before .before in (
+      s .answerable .ensures,
+      replaying-end (c .before .loop .inv .0) (whole-fit _ _ _ (s .answerable .ensures) .1) (c .loop-test .left)
+          (s .answerable .ensures),
+    )
 
 pub replay-spec : {M : Type 1} → statement M
 replay-spec =

@@ -21,7 +21,8 @@ returns : tie.Need-returns
 returns c =
     let a = c .before .before .before .args in
     c .first-cause .ensures
-    ∙ (λ i. first (causes (leb 512 (a .row)) (not (c .before .before .edge-in-range .ensures i)) (ltb (c .before .edge-key .ensures i) (a .minimum))))
+    ∙ (λ i. first
+    (causes (leb 512 (a .row)) (not (c .before .before .edge-in-range .ensures i)) (ltb (c .before .edge-key .ensures i) (a .minimum))))
 
 pub edge-refusal-spec : {M : Type 1} → statement M
 edge-refusal-spec =

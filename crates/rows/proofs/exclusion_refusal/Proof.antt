@@ -17,7 +17,9 @@ first-cause-requires c κs = search needs
 returns : tie.Need-returns
 returns c =
     let a = c .before .before .args in
-    c .first-cause .ensures ∙ (λ i. first (causes false (not (ltb (a .low) (a .high) && ltb (a .high) (a .principals))) (ltb (c .before .pair-key .ensures i) (a .minimum))))
+    c .first-cause .ensures
+    ∙ (λ i. first
+    (causes false (not (ltb (a .low) (a .high) && ltb (a .high) (a .principals))) (ltb (c .before .pair-key .ensures i) (a .minimum))))
 
 pub exclusion-refusal-spec : {M : Type 1} → statement M
 exclusion-refusal-spec = tie.close (tie.spec pair-key-requires first-cause-requires returns)

@@ -29,17 +29,20 @@ add-result-3 c = let a = c .before .before .before .before .before .before in om
 returns : tie.Need-returns
 returns c =
     let a = c .before .before .before .args in
-    (let e : c .before .before .height-at .result + 1 ≡ suc (at (a .heights) (a .a)) = omega arith in e) ∙ height-not (a .a) (a .b) (at (a .heights)) (a .op) (omega arith)
+    (let e : c .before .before .height-at .result + 1 ≡ suc (at (a .heights) (a .a)) = omega arith in e)
+    ∙ height-not (a .a) (a .b) (at (a .heights)) (a .op) (omega arith)
 
 returns-2 : tie.Need-returns-2
 returns-2 c =
     let a = c .before .before .before .before .before .before .args in
-    (let e : c .larger .result + 1 ≡ suc (max (at (a .heights) (a .a)) (at (a .heights) (a .b))) = omega arith in e) ∙ height-two (a .a) (a .b) (at (a .heights)) (a .op) (omega arith) (omega arith)
+    (let e : c .larger .result + 1 ≡ suc (max (at (a .heights) (a .a)) (at (a .heights) (a .b))) = omega arith in e)
+    ∙ height-two (a .a) (a .b) (at (a .heights)) (a .op) (omega arith) (omega arith)
 
 returns-3 : tie.Need-returns-3
 returns-3 c =
     let a = c .before .before .before .before .before .before .args in
-    (let e : c .before .before .before .before .height-at2 .result + 1 ≡ suc (at (a .heights) (a .b)) = omega arith in e) ∙ height-step (a .a) (a .b) (at (a .heights)) (a .op) (omega arith) (omega arith)
+    (let e : c .before .before .before .before .height-at2 .result + 1 ≡ suc (at (a .heights) (a .b)) = omega arith in e)
+    ∙ height-step (a .a) (a .b) (at (a .heights)) (a .op) (omega arith) (omega arith)
 
 returns-4 : tie.Need-returns-4
 returns-4 c =

@@ -17,7 +17,8 @@ first-cause-requires c κs = search needs
 returns : tie.Need-returns
 returns c =
     let a = c .before .before .args in
-    c .first-cause .ensures ∙ (λ i. first (causes (leb 64 (a .row)) (not (c .before .parts-in-range .ensures i && leb (a .height) 8)) false))
+    c .first-cause .ensures
+    ∙ (λ i. first (causes (leb 64 (a .row)) (not (c .before .parts-in-range .ensures i && leb (a .height) 8)) false))
 
 pub formula-refusal-spec : {M : Type 1} → statement M
 formula-refusal-spec = tie.close (tie.spec parts-in-range-requires first-cause-requires returns)

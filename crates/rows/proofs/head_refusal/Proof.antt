@@ -18,7 +18,9 @@ returns : tie.Need-returns
 returns c =
     let a = c .before .args in
     c .first-cause .ensures
-    ∙ (λ i. first (causes false (not (eqb (a .version) 1 && (sym (and-true (leb 1 (a .objects))) ∙ ap (λ (b : Bool). leb 1 (a .objects) && b) (sym (le-leb (a .objects) 255 (omega arith)))) i)) false))
+    ∙ (λ i. first (causes false (not (eqb (a .version) 1
+    && (sym (and-true (leb 1 (a .objects))) ∙ ap (λ (b : Bool). leb 1 (a .objects) && b) (sym (le-leb (a .objects) 255 (omega arith)))) i))
+    false))
 
 pub head-refusal-spec : {M : Type 1} → statement M
 head-refusal-spec = tie.close (tie.spec first-cause-requires returns)

@@ -17,7 +17,8 @@ first-cause-requires c κs = search needs
 returns : tie.Need-returns
 returns c =
     let a = c .before .before .args in
-    c .first-cause .ensures ∙ (λ i. first (causes false (not (pairInRange (a .things) (a .a) (a .b))) (ltb (c .before .pair-key .ensures i) (a .minimum))))
+    c .first-cause .ensures
+    ∙ (λ i. first (causes false (not (pairInRange (a .things) (a .a) (a .b))) (ltb (c .before .pair-key .ensures i) (a .minimum))))
 
 pub pair-refusal-spec : {M : Type 1} → statement M
 pair-refusal-spec = tie.close (tie.spec pair-key-requires first-cause-requires returns)

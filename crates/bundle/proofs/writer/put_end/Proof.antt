@@ -20,11 +20,15 @@ put-line-requires : tie.Need-put-line-requires
 put-line-requires c κs = room-body (c .before .before .end-body .ensures) (omega arith) (c .before .before .before .before .pre)
 
 ended : (c : tie.After-put-line) → let h = c .before .before .before .before .before in
-    Put (h .args .buffer .now) (c .put-line .last .0) (h .args .from) (c .put-line .result) (lineOctets end (h .args .from .lines ∷ h .args .from .sum ∷ []) ∷ [])
+    Put (h .args .buffer .now) (c .put-line .last .0) (h .args .from) (c .put-line .result)
+    (lineOctets end (h .args .from .lines ∷ h .args .from .sum ∷ []) ∷ [])
 ended c = put-body 0xFF (c .before .before .before .end-body .ensures) (c .put-line .ensures)
 
 same-length : tie.Need-same-length
-same-length c = let h = c .before .before .before .before .before .before .before in put-length (omega (arith, ended (c .before .before) .offset, h .pre .room, end-size (h .args .from .lines ∷ h .args .from .sum ∷ []))) (ended (c .before .before))
+same-length c =
+    let h = c .before .before .before .before .before .before .before in
+    put-length (omega (arith, ended (c .before .before) .offset, h .pre .room, end-size (h .args .from .lines ∷ h .args .from .sum ∷ [])))
+    (ended (c .before .before))
 
 returns : tie.Need-returns
 returns c = ended (c .before .before)

@@ -10,7 +10,8 @@ use Rattle.writing.specs.Drafts.{Put}
 use Rattle.writing.specs.DraftLaws.{put-none, put-length}
 use Rattle.bundle.specs.Writing.{tableLines, ruleLines}
 use Rattle.bundle.specs.Parts.{start, Room}
-use Rattle.bundle.proofs.Puts.{room-table, room-rest, put-table, within, put-lines, head-line, user-lines, edge-lines, formula-lines, demarcation-lines}
+use Rattle.bundle.proofs.Puts.{room-table, room-rest, put-table, within, put-lines, head-line, user-lines, edge-lines, formula-lines}
+use Rattle.bundle.proofs.Puts.{demarcation-lines}
 use Rattle.bundle.proofs.writer.put_graph.Statement.{statement}
 use Rattle.bundle.proofs.writer.put_graph.Tie as tie
 
@@ -47,32 +48,42 @@ abbrev rules : tie.After-put-line → Record
 rules c = entry c .args .t1
 
 -- what each call wrote, and the room after it
-put-head : (c : tie.After-put-line) → Put (entry c .args .buffer .now) (c .put-line .last .0) start (c .put-line .result) (tableLines head (rules c))
+put-head : (c : tie.After-put-line)
+    → Put (entry c .args .buffer .now) (c .put-line .last .0) start (c .put-line .result) (tableLines head (rules c))
 put-head c = put-lines (head-line (rules c) (entry c .pre .1)) (c .put-line .ensures)
 
 room-head : (c : tie.After-put-line) → Room (c .put-line .last .0) (c .put-line .result) (ruleLines after-head (rules c))
 room-head c = room-rest head after-head (rules c) (entry c .pre .2) (put-head c)
 
-put-user : (c : tie.After-put-users) → Put (headed c .put-line .last .0) (c .put-users .last .0) (headed c .put-line .result) (c .put-users .result) (tableLines user (rules (headed c)))
+put-user : (c : tie.After-put-users)
+    → Put (headed c .put-line .last .0) (c .put-users .last .0) (headed c .put-line .result) (c .put-users .result)
+    (tableLines user (rules (headed c)))
 put-user c = put-lines (user-lines (rules (headed c)) (entry (headed c) .pre .1)) (c .put-users .ensures)
 
 room-user : (c : tie.After-put-users) → Room (c .put-users .last .0) (c .put-users .result) (ruleLines after-user (rules (headed c)))
 room-user c = room-rest user after-user (rules (headed c)) (room-head (headed c)) (put-user c)
 
-put-edge : (c : tie.After-put-triples) → Put (usered c .put-users .last .0) (c .put-triples .last .0) (usered c .put-users .result) (c .put-triples .result) (tableLines edge (rules (headed (usered c))))
+put-edge : (c : tie.After-put-triples)
+    → Put (usered c .put-users .last .0) (c .put-triples .last .0) (usered c .put-users .result) (c .put-triples .result)
+    (tableLines edge (rules (headed (usered c))))
 put-edge c = let h = headed (usered c) in put-lines (edge-lines (rules h) (entry h .pre .1)) (c .put-triples .ensures)
 
-room-edge : (c : tie.After-put-triples) → Room (c .put-triples .last .0) (c .put-triples .result) (ruleLines after-edge (rules (headed (usered c))))
+room-edge : (c : tie.After-put-triples)
+    → Room (c .put-triples .last .0) (c .put-triples .result) (ruleLines after-edge (rules (headed (usered c))))
 room-edge c = room-rest edge after-edge (rules (headed (usered c))) (room-user (usered c)) (put-edge c)
 
-put-formula : (c : tie.After-put-triples2) → Put (edged c .put-triples .last .0) (c .put-triples2 .last .0) (edged c .put-triples .result) (c .put-triples2 .result) (tableLines formula (rules (headed (usered (edged c)))))
+put-formula : (c : tie.After-put-triples2)
+    → Put (edged c .put-triples .last .0) (c .put-triples2 .last .0) (edged c .put-triples .result) (c .put-triples2 .result)
+    (tableLines formula (rules (headed (usered (edged c)))))
 put-formula c = let h = headed (usered (edged c)) in put-lines (formula-lines (rules h) (entry h .pre .1)) (c .put-triples2 .ensures)
 
-room-formula : (c : tie.After-put-triples2) → Room (c .put-triples2 .last .0) (c .put-triples2 .result) (ruleLines after-formula (rules (headed (usered (edged c)))))
+room-formula : (c : tie.After-put-triples2)
+    → Room (c .put-triples2 .last .0) (c .put-triples2 .result) (ruleLines after-formula (rules (headed (usered (edged c)))))
 room-formula c = room-rest formula after-formula (rules (headed (usered (edged c)))) (room-edge (edged c)) (put-formula c)
 
 all : (c : tie.After-put-demarcations) → let h = headed (usered (edged (formed c))) in
-    Put (entry h .args .buffer .now) (c .put-demarcations .last .0) start (c .put-demarcations .result) (ruleLines (head ∷ user ∷ edge ∷ formula ∷ demarcation ∷ []) (rules h))
+    Put (entry h .args .buffer .now) (c .put-demarcations .last .0) start (c .put-demarcations .result)
+    (ruleLines (head ∷ user ∷ edge ∷ formula ∷ demarcation ∷ []) (rules h))
 all c =
     let f = formed c in
     let e = edged f in
@@ -87,7 +98,8 @@ all c =
     (put-table demarcation [] r (room-formula f) d (put-none _ _)))))
 
 -- within the buffer
-room-whole : (c : tie.After-put-demarcations) → c .put-demarcations .result .offset ≤ length (entry (headed (usered (edged (formed c)))) .args .buffer .now)
+room-whole : (c : tie.After-put-demarcations)
+    → c .put-demarcations .result .offset ≤ length (entry (headed (usered (edged (formed c)))) .args .buffer .now)
 room-whole c = omega (arith, all c .offset, entry (headed (usered (edged (formed c)))) .pre .2 .room)
 
 slice-aggregate-put-line : tie.Need-slice-aggregate-put-line
@@ -107,16 +119,26 @@ put-triples-requires : tie.Need-put-triples-requires
 put-triples-requires c κs =
     let u = c .before .before .before .before .before .before .before .before .before .before in
     let p = entry (headed u) .pre in
-    let l = p .1 .sized .long edge in
-    (within edge _ (p .0) (l .0), within edge _ (p .0) (l .1 .0), within edge _ (p .0) (l .1 .1 .0), room-table edge after-edge (rules (headed u)) (room-user u))
+    let l = p .1 .sized .long edge in (
+      within edge _ (p .0) (l .0),
+      within edge _ (p .0) (l .1 .0),
+      within edge _ (p .0) (l .1 .1 .0),
+      room-table edge after-edge
+          (rules (headed u)) (room-user u),
+    )
 
 put-triples-requires-2 : tie.Need-put-triples-requires-2
 put-triples-requires-2 c κs =
     let e = c .before .before .before .before .before .before .before .before .before .before in
     let h = headed (usered e) in
     let p = entry h .pre in
-    let l = p .1 .sized .long formula in
-    (within formula _ (p .0) (l .0), within formula _ (p .0) (l .1 .0), within formula _ (p .0) (l .1 .1 .0), room-table formula after-formula (rules h) (room-edge e))
+    let l = p .1 .sized .long formula in (
+      within formula _ (p .0) (l .0),
+      within formula _ (p .0) (l .1 .0),
+      within formula _ (p .0) (l .1 .1 .0),
+      room-table formula
+          after-formula (rules h) (room-edge e),
+    )
 
 put-demarcations-requires : tie.Need-put-demarcations-requires
 put-demarcations-requires c κs =

@@ -22,13 +22,17 @@ returns c = let m = c .before .before .measure .ensures in writes-unloadable _ _
 loads : (e : tie.Else1) → (loadable (e .before .before .before .before .args .rules) ≡ true)
 loads e = measures _ (e .before .before .measure .ensures .0) (e .if1 .left) .0
 
-needs-length : (e : tie.Else1) → e .before .before .measure .result .length ≡ length (bundleOf (e .before .before .before .before .args .rules))
+needs-length : (e : tie.Else1)
+    → e .before .before .measure .result .length ≡ length (bundleOf (e .before .before .before .before .args .rules))
 needs-length e = measures _ (e .before .before .measure .ensures .0) (e .if1 .left) .1
 
 returns-2 : tie.Need-returns-2
-returns-2 c = let e = c .before .before in writes-short _ _ (e .before .before .measure .ensures .1) (loads e) (needs-length e) (c .if2 .taken)
+returns-2 c =
+    let e = c .before .before in writes-short _ _ (e .before .before .measure .ensures .1) (loads e) (needs-length e) (c .if2 .taken)
 
-fits : (e : tie.Else2) → length (bundleOf (e .before .before .before .before .before .before .args .rules)) ≤ length (e .before .before .before .before .before .before .args .buffer .now)
+fits : (e : tie.Else2)
+    → length (bundleOf (e .before .before .before .before .before .before .args .rules)) ≤ length
+    (e .before .before .before .before .before .before .args .buffer .now)
 fits e = omega (arith, needs-length (e .before .before), e .if2 .left)
 
 put-graph-requires : tie.Need-put-graph-requires
@@ -56,7 +60,8 @@ same-length c =
     let h = c .before .before .before .before .before .before in
     let g = h .before .before .before .before in
     let e = g .before .before in
-    whole-length _ (loads (e .before .before)) (fits e) (g .put-graph .ensures) (h .put-grounds .ensures) (c .before .before .put-end .ensures)
+    whole-length _ (loads (e .before .before)) (fits e) (g .put-graph .ensures) (h .put-grounds .ensures)
+    (c .before .before .put-end .ensures)
 
 returns-3 : tie.Need-returns-3
 returns-3 c =
@@ -65,7 +70,8 @@ returns-3 c =
     let e = g .before .before in
     let l = loads (e .before .before) in
     let m = e .before .before .before .before .measure .ensures in
-    writes-all _ _ (m .1) l (m .0) (fits e) (whole _ l (fits e) (g .put-graph .ensures) (h .put-grounds .ensures) (c .before .before .put-end .ensures))
+    writes-all _ _ (m .1) l (m .0) (fits e)
+    (whole _ l (fits e) (g .put-graph .ensures) (h .put-grounds .ensures) (c .before .before .put-end .ensures))
 
 pub write-spec : {M : Type 1} → statement M
 write-spec =
