@@ -9,6 +9,7 @@ ghost use Rattle.policy.specs.Rows.{key};
 ghost use Rattle.lines.specs.NextLine.{nextOf, numberAt};
 ghost use Rattle.lines.specs.Judging.{TableKind, wideAt, rowAt, fieldsOf, heightBy, refusalBy, HeightsLow};
 ghost use Rattle.lines.specs.Judging.{mostLineSum, CursorBound, movedPast, Judges};
+use common::MOST_FORMULAS;
 use octets::Line;
 
 // ---- what stands at an offset
@@ -135,7 +136,7 @@ pub struct Bounds {
 }
 
 // The height of the formula that a line says, from the heights of those before it; 0 for any other kind.
-fn height_of(kind: u8, row: Row, heights: &[u8; 64]) -> u8
+fn height_of(kind: u8, row: Row, heights: &[u8; MOST_FORMULAS]) -> u8
     requires { ⌜ HeightsLow kind (now heights) ⌝ }
     ensures { λ r. ⌜ r ≡ heightBy kind row (at (now (heights .entry))) ⌝ }
 {
@@ -230,7 +231,7 @@ pub fn judged_line(
     kind: u8,
     size: usize,
     bounds: Bounds,
-    heights: &[u8; 64],
+    heights: &[u8; MOST_FORMULAS],
 ) -> Judged
     requires { ⌜ TableKind kind × CursorBound cursor × HeightsLow kind (now heights) ⌝ }
     ensures { λ r. ⌜ Judges (now (text .entry)) cursor kind size bounds (at (now (heights .entry))) r ⌝ }

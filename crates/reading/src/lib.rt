@@ -6,6 +6,7 @@ ghost use lib.ListN.{length};
 ghost use Rattle.common.specs.Limits.{mostLines};
 ghost use Rattle.policy.specs.Table.{kindOf};
 ghost use Rattle.reading.specs.Stages.{refusedAt, ReadableKind, Ready, Starts, Reads};
+use common::MOST_FORMULAS;
 use lines::Bounds;
 use lines::Cursor;
 use lines::Judged;
@@ -85,7 +86,7 @@ pub fn read_kind(text: &[u8], kind: u8, size: usize, from: Stage) -> Stage
     let mut rules = from.rules;
     let mut count: usize = 0;
     let mut least_key: u32 = 0;
-    let mut heights = [0u8; 64];
+    let mut heights = [0u8; MOST_FORMULAS];
     loop {
         let bounds = Bounds {
             row: count,
