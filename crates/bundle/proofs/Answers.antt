@@ -13,7 +13,7 @@ use Rattle.policy.specs.Loadable.{loadable}
 use Rattle.bundle.specs.declared.Written.{Written}
 use Rattle.bundle.specs.Writing.{bundleOf, lengthNeeded, measured, written, bufferAfter, writeRefusal}
 use Rattle.bundle.specs.Typed.{Typed}
-use Rattle.bundle.specs.Parts.{Writes}
+use Rattle.bundle.specs.WriterParts.{Writes}
 
 module _ (r : Record) where
   pub unmeasured : loadable r ≡ false → record { number = 19; length = 0 } ≡ measured r

@@ -15,7 +15,7 @@ use Rattle.writing.specs.declared.Draft.{Draft}
 use Rattle.writing.specs.Drafts.{RoomFor, Put}
 use Rattle.writing.specs.DraftLaws.{text-append, put-join, put-length}
 use Rattle.bundle.specs.Writing.{lineOctets, tableLines, ruleLines, withEnd, bundleOf}
-use Rattle.bundle.specs.Parts.{graphLines, groundLines, start, Room}
+use Rattle.bundle.specs.WriterParts.{graphLines, groundLines, start, Room}
 use Rattle.bundle.specs.LengthLaws.{end-size, rules-few}
 
 rules-append : (ks js : List Kind) (r : Record) → ruleLines (ks ++ js) r ≡ ruleLines ks r ++ ruleLines js r

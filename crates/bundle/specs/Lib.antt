@@ -1,6 +1,6 @@
 pub mod Writing
 pub mod Typed
-pub mod Parts
+pub mod WriterParts
 pub mod CutLaws
 pub mod BodyLaws
 pub mod LengthLaws

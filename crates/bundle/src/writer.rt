@@ -10,7 +10,7 @@ ghost use Rattle.writing.specs.Drafts.{RoomFor, Put};
 ghost use Rattle.reading.specs.Body.{widths};
 ghost use Rattle.bundle.specs.Writing.{body, lineOctets, bundleOf, measured};
 ghost use Rattle.bundle.specs.Typed.{Typed};
-ghost use Rattle.bundle.specs.Parts.{graphLines, groundLines, start, Room, Writes};
+ghost use Rattle.bundle.specs.WriterParts.{graphLines, groundLines, start, Room, Writes};
 use crate::Written;
 use policy::Record;
 use writing::Draft;

@@ -11,7 +11,7 @@ use Rattle.closure.specs.Closure.{On, Listed, pairsOf, Closes, reaches}
 use Rattle.closure.specs.ClosureFact.{closed-reaches}
 use Rattle.policy.specs.Loadable.{pairsLoad}
 use Rattle.policy.specs.LoadableLaws.{pairs-few, pairs-named}
-use Rattle.justification.specs.Parts.{Marks}
+use Rattle.justification.specs.MarkedSets.{Marks}
 
 pub leading : (things n : ℕ) (a b : List ℕ) (m c : List (List Bool)) (sets : List ℕ) → pairsLoad things n a b ≡ true → things ≤ 20
     → ((i j : ℕ) → i < 20 → j < 20 → (On m i j ↔ Listed (pairsOf (min n 380) a b) i j)) → Closes (min things 20) (On m) (On c)

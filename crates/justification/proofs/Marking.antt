@@ -13,7 +13,7 @@ use Rattle.common.specs.Lists.{at}
 use Rattle.common.specs.Sets.{In}
 use Rattle.common.specs.SetLaws.{none-in-zero, in-or-l, in-or-r, or-in, in-pow, pow-in}
 use Rattle.search.specs.Steps.{Decides}
-use Rattle.justification.specs.Parts.{Marks, Those}
+use Rattle.justification.specs.MarkedSets.{Marks, Those}
 
 -- a number below i + 1 is i, or below i
 last : (p i : ℕ) → p < i + 1 → (p ≡ i) ⊎ (p < i)

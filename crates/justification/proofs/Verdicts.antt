@@ -15,7 +15,7 @@ use Rattle.search.specs.Steps.{Decides, MetBy, Gathers}
 use Rattle.justification.specs.Justification.{demarcationHas, have, meets}
 use Rattle.justification.specs.declared.Question.{Question}
 use Rattle.justification.specs.Predicates.{isEnabled, enabled}
-use Rattle.justification.specs.Parts.{Those}
+use Rattle.justification.specs.MarkedSets.{Those}
 use Rattle.justification.specs.GuardLaws.{guard-met, enabled-gather, one-meets-is}
 
 -- a set that is not 0 has a member, and the reverse

@@ -16,7 +16,7 @@ use Rattle.search.specs.Steps.{MetBy, Gathers}
 use Rattle.justification.specs.Justification.{demarcationHas, have, listed, meets}
 use Rattle.justification.specs.declared.Question.{Question}
 use Rattle.justification.specs.Predicates.{isEnabled, enabled}
-use Rattle.justification.specs.Parts.{Marks, Those}
+use Rattle.justification.specs.MarkedSets.{Marks, Those}
 
 -- what a demarcation has is what those at or below it list
 pub demarcation-gathers : (r : Record) (d s g : ℕ)

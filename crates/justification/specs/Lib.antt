@@ -2,7 +2,7 @@ pub mod Justification
 pub mod Order
 pub mod Masked
 pub mod Predicates
-pub mod Parts
+pub mod MarkedSets
 pub mod OrderFact
 pub mod MaskLaws
 pub mod GuardLaws

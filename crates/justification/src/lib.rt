@@ -20,7 +20,7 @@ ghost use Rattle.justification.specs.Justification as justification;
 ghost use Rattle.justification.specs.Masked.{AmongPairs, Masked, found};
 ghost use Rattle.justification.specs.Predicates.{isUserIn, questionRefusal, isEnabled};
 ghost use Rattle.justification.specs.Predicates as predicates;
-ghost use Rattle.justification.specs.Parts.{Marks, Those};
+ghost use Rattle.justification.specs.MarkedSets.{Marks, Those};
 use common::MOST_EXCLUSIONS;
 use common::MOST_PAIRS;
 use common::MOST_PRINCIPALS;

@@ -10,7 +10,7 @@ ghost use Rattle.policy.specs.Loadable.{tableLoads};
 ghost use Rattle.formula.specs.Formula.{trueBelow};
 ghost use Rattle.formula.specs.Evaluation.{formulasIn, edgesIn, contextOf, trueAtObject};
 ghost use Rattle.justification.specs.Justification.{members};
-ghost use Rattle.justification.specs.Parts.{Marks};
+ghost use Rattle.justification.specs.MarkedSets.{Marks};
 ghost use Rattle.memo.specs.Memo.{known, value, memoFor};
 ghost use Rattle.memo.specs.Memo as memos;
 ghost use Rattle.memo.specs.Walk.{evaluatedAll, tried, weighedOf};

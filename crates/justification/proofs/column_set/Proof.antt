@@ -5,7 +5,7 @@ use mathlib.Core.Bool.{false}
 use mathlib.Core.List.{[]}
 use native.Mathlib.Omega.{arith}
 use lib.ListN.{getD}
-use Rattle.justification.specs.Parts.{Marks}
+use Rattle.justification.specs.MarkedSets.{Marks}
 use Rattle.justification.proofs.Marking.{marks-none, marks-more, marks-end}
 use borrow.Author.Needs.{needs}
 use Rattle.justification.proofs.column_set.Statement.{statement}

@@ -6,7 +6,7 @@ use mathlib.Core.List.{[]}
 use native.Mathlib.Omega.{arith}
 use lib.ListN.{length, getD, length-set}
 use Rattle.common.specs.Lists.{at}
-use Rattle.justification.specs.Parts.{Marks}
+use Rattle.justification.specs.MarkedSets.{Marks}
 use Rattle.justification.proofs.Marking.{stored}
 use borrow.Author.Needs.{needs}
 use Rattle.justification.proofs.column_sets.Statement.{statement}

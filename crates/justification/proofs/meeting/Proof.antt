@@ -3,7 +3,7 @@ use Prim.Native.Nat.{_-_, _≤_}
 use native.Mathlib.Omega.{arith}
 use Rattle.common.specs.Lists.{at}
 use Rattle.search.specs.Steps.{MetBy}
-use Rattle.justification.specs.Parts.{Those}
+use Rattle.justification.specs.MarkedSets.{Those}
 use Rattle.justification.proofs.Marking.{those-none, those-more, those-end}
 use borrow.Author.Needs.{needs}
 use Rattle.justification.proofs.meeting.Statement.{statement}

@@ -4,7 +4,7 @@ use mathlib.Core.Path.{ap}
 use native.Mathlib.Omega.{arith}
 use borrow.Author.Needs.{needs}
 use Rattle.common.specs.Lists.{at}
-use Rattle.justification.specs.Parts.{Marks}
+use Rattle.justification.specs.MarkedSets.{Marks}
 use Rattle.justification.proofs.Marking.{marks-none, marks-more, marks-end}
 use Rattle.memo.specs.Memo.{known, value}
 use Rattle.memo.proofs.valued.Statement.{statement}

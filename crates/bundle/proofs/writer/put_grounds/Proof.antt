@@ -8,7 +8,7 @@ use Rattle.policy.specs.Table.{Kind, hierarchy, principal, exclusion, prerequis
 use Rattle.writing.specs.Drafts.{Put}
 use Rattle.writing.specs.DraftLaws.{put-none, put-length}
 use Rattle.bundle.specs.Writing.{tableLines, ruleLines}
-use Rattle.bundle.specs.Parts.{Room}
+use Rattle.bundle.specs.WriterParts.{Room}
 use Rattle.bundle.proofs.Puts.{room-table, room-rest, put-table, within, put-lines, hierarchy-lines, principal-lines}
 use Rattle.bundle.proofs.Puts.{exclusion-lines, prerequisite-lines, method-lines}
 use Rattle.bundle.proofs.writer.put_grounds.Statement.{statement}
