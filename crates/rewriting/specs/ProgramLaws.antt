@@ -19,7 +19,7 @@ use Rattle.reading.specs.declared.Loaded.{Loaded}
 use Rattle.reading.specs.Loading.{Reading, atTop, lineRefusal, afterLine, notLoaded, afterLastLine, read, load}
 use Rattle.bundle.specs.declared.Written.{Written}
 use Rattle.bundle.specs.Writing.{bundleOf, lengthNeeded, written, writeRefusal, bufferAfter}
-use Rattle.bundle.specs.Parts.{Writes}
+use Rattle.bundle.specs.WriterParts.{Writes}
 use Rattle.rewriting.specs.Program.{tooLong, refusedText, program, shownLength, shown}
 
 -- ---- there are no more lines than bytes
