@@ -2,4 +2,3 @@ pub mod Marking
 mod Excluding
 pub mod Asking
 mod Leading
-mod Verdicts

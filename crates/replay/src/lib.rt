@@ -78,11 +78,11 @@ fn answer_given(rules: Record, loads: bool, kind: u8, a: u8, b: u8, c: u8) -> An
         3 => access::ask_lazy_given(rules, loads, question_of(a, b, c)),
         4 => verdict_answer(
             rules,
-            justification::liberal_given(rules, loads, question_of(a, b, c)),
+            predicates::liberal_given(rules, loads, question_of(a, b, c)),
         ),
         5 => verdict_answer(
             rules,
-            justification::strict_given(rules, loads, question_of(a, b, c)),
+            predicates::strict_given(rules, loads, question_of(a, b, c)),
         ),
         6..=255 => Answer {
             number: common::WRONG_KIND,

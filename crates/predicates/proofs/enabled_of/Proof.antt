@@ -13,13 +13,13 @@ use Rattle.policy.specs.LoadableLaws.{table-few}
 use Rattle.formula.specs.Formula.{holds}
 use Rattle.formula.specs.Evaluation.{trueAtObject}
 use Rattle.formula.specs.EvaluationLaws.{true-at-holds}
 use Rattle.justification.specs.declared.Question.{Question}
 use Rattle.justification.specs.Predicates.{isEnabled}
 use Rattle.justification.specs.NamedLaws.{principal-named}
 use Rattle.justification.specs.MarkedSets.{Those}
 use Rattle.justification.proofs.Marking.{those-none, those-more, those-skip, those-end}
-use Rattle.justification.proofs.enabled_of.Statement.{statement}
-use Rattle.justification.proofs.enabled_of.Tie as tie
+use Rattle.predicates.proofs.enabled_of.Statement.{statement}
+use Rattle.predicates.proofs.enabled_of.Tie as tie
 
 abbrev Inv-loop : tie.InvT-loop
 Inv-loop among rules n object requestor roles s₀ p₀ s p =

@@ -1,7 +1,7 @@
 -- `liberal` meets its contract.
 use borrow.Author.Needs.{needs}
-use Rattle.justification.proofs.liberal.Statement.{statement}
-use Rattle.justification.proofs.liberal.Tie as tie
+use Rattle.predicates.proofs.liberal.Statement.{statement}
+use Rattle.predicates.proofs.liberal.Tie as tie
 
 loadable-requires : tie.Need-loadable-requires
 loadable-requires c κs = search needs

@@ -6,11 +6,11 @@ use Rattle.policy.specs.Loadable.{tableLoads}
 use native.Mathlib.Omega.{arith}
 use Rattle.policy.specs.LoadableLaws.{table-few, loadable-table}
 use Rattle.policy.specs.Table.{Kind, principal, method}
-use Rattle.justification.proofs.Verdicts.{liberal-yes}
+use Rattle.predicates.proofs.Verdicts.{liberal-yes}
 use Rattle.justification.proofs.Asking.{Asked, asked, liberal-refused, liberal-is}
 use borrow.Author.Needs.{needs}
-use Rattle.justification.proofs.liberal_given.Statement.{statement}
-use Rattle.justification.proofs.liberal_given.Tie as tie
+use Rattle.predicates.proofs.liberal_given.Statement.{statement}
+use Rattle.predicates.proofs.liberal_given.Tie as tie
 
 question-refusal-requires : tie.Need-question-refusal-requires
 question-refusal-requires c κs = c .pre

@@ -3,11 +3,11 @@ use Prim.Native.Nat.{_-_, _≤_}
 use native.Mathlib.Omega.{arith}
 use Rattle.common.specs.Lists.{at}
 use Rattle.search.specs.Steps.{MetBy}
 use Rattle.justification.specs.MarkedSets.{Those}
 use Rattle.justification.proofs.Marking.{those-none, those-more, those-end}
 use borrow.Author.Needs.{needs}
-use Rattle.justification.proofs.meeting.Statement.{statement}
-use Rattle.justification.proofs.meeting.Tie as tie
+use Rattle.predicates.proofs.meeting.Statement.{statement}
+use Rattle.predicates.proofs.meeting.Tie as tie
 
 abbrev Inv-loop : tie.InvT-loop
 Inv-loop n every wanted grants s₀ p₀ s p = Those p (λ k. MetBy every wanted (at grants k)) s × (p ≤ n)

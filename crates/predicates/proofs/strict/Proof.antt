@@ -1,7 +1,7 @@
 -- `strict` meets its contract.
 use borrow.Author.Needs.{needs}
-use Rattle.justification.proofs.strict.Statement.{statement}
-use Rattle.justification.proofs.strict.Tie as tie
+use Rattle.predicates.proofs.strict.Statement.{statement}
+use Rattle.predicates.proofs.strict.Tie as tie
 
 loadable-requires : tie.Need-loadable-requires
 loadable-requires c κs = search needs
