@@ -11,16 +11,14 @@ ghost use Rattle.common.specs.Limits.{mostUsers, mostPrincipals, mostExclusions
 ghost use Rattle.common.specs.Lists.{at};
 ghost use Rattle.common.specs.Sets.{member, In};
 ghost use Rattle.closure.specs.Closure.{pairsOf, reaches};
-ghost use Rattle.search.specs.Steps.{MetBy};
 ghost use Rattle.policy.specs.Table.{Kind};
 ghost use Rattle.policy.specs.Loadable.{tableLoads, pairsLoad};
 ghost use Rattle.policy.specs.Loadable as validity;
 ghost use Rattle.justification.specs.Justification.{demarcationHas};
 ghost use Rattle.justification.specs.Justification as justification;
 ghost use Rattle.justification.specs.Masked.{AmongPairs, Masked, found};
-ghost use Rattle.justification.specs.Predicates.{isUserIn, questionRefusal, isEnabled};
-ghost use Rattle.justification.specs.Predicates as predicates;
-ghost use Rattle.justification.specs.MarkedSets.{Marks, Those};
+ghost use Rattle.justification.specs.Predicates.{isUserIn, questionRefusal};
+ghost use Rattle.justification.specs.MarkedSets.{Marks};
 use common::MOST_EXCLUSIONS;
 use common::MOST_PAIRS;
 use common::MOST_PRINCIPALS;
