@@ -25,20 +25,20 @@ index-requires c κs = search needs
 
 returns-2 : tie.Need-returns-2
 returns-2 c =
-    let p = c .before .before in
+    let p = c .before in
     let e = p .before .before in
     formula-absent _ _ (e .before .before .load .ensures) _ _ _ (e .if1 .left) (omega (arith, c .if2 .taken, p .index .ensures))
 
 -- past both tests: every table of what was loaded loads, and the formula is there
 module _ (h : tie.Else2) where
   abbrev loaded : tie.After-load
-  loaded = h .before .before .before .before .before .before
+  loaded = h .before .before .before .before .before
 
   abbrev start : tie.Start
   start = loaded .before .before
 
   tables : (k : Kind) → tableLoads (loaded .load .result .rules) k ≡ true
-  tables = loaded-tables _ _ (loaded .load .ensures) (h .before .before .before .before .if1 .left)
+  tables = loaded-tables _ _ (loaded .load .ensures) (h .before .before .before .if1 .left)
 
 roles-of-requires : tie.Need-roles-of-requires
 roles-of-requires c κs = table-few _ user (tables (c .before .before .before) user)
@@ -61,13 +61,13 @@ answers c =
     let h = passed o in
     let s = start h in
     let r = loaded h .load .result .rules in
-    let at : h .before .before .index .result ≡ s .args .formula = h .before .before .index .ensures in
+    let at : h .before .index .result ≡ s .args .formula = h .before .index .ensures in
     let there : s .args .formula < r .«formula_count» = omega (arith, h .if2 .left, at) in
     formula-present _ _ (loaded h .load .ensures) (s .args .formula) (s .args .object) (s .args .requestor)
-    (h .before .before .before .before .if1 .left) there
+    (h .before .before .before .if1 .left) there
     (c .true-at-object .result)
     (c .true-at-object .ensures
-    ∙ true-at-holds r (h .before .before .index .result) (s .args .object) (s .args .requestor) (o .roles-of .result) (o .roles-of .ensures)
+    ∙ true-at-holds r (h .before .index .result) (s .args .object) (s .args .requestor) (o .roles-of .result) (o .roles-of .ensures)
     (h .if2 .left) (table-few r formula (tables h formula))
     ∙ (λ j. holds r (at j) (s .args .object) (s .args .object) (s .args .requestor)))
 
