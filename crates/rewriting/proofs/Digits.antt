@@ -29,16 +29,23 @@ module _ (n : ℕ) where
       three-digits l = more 4 n l₁ (more 3 (n / 10) l₂ (last 2 (n / 10 / 10) l))
 
       module _ (l₃ : 10 ≤ n / 10 / 10) where
-        pub four-digits : n / 10 / 10 / 10 < 10 → decimals 5 n ≡ (48 + n / 10 / 10 / 10 % 10) ∷ (48 + n / 10 / 10 % 10) ∷ (48 + n / 10 % 10) ∷ (48 + n % 10) ∷ []
+        pub four-digits : n / 10 / 10 / 10 < 10
+            → decimals 5 n ≡ (48 + n / 10 / 10 / 10 % 10) ∷ (48 + n / 10 / 10 % 10) ∷ (48 + n / 10 % 10) ∷ (48 + n % 10) ∷ []
         four-digits l = more 4 n l₁ (more 3 (n / 10) l₂ (more 2 (n / 10 / 10) l₃ (last 1 (n / 10 / 10 / 10) l)))
 
         pub five-digits : 10 ≤ n / 10 / 10 / 10 → n < 100000
-            → decimals 5 n ≡ (48 + n / 10 / 10 / 10 / 10) ∷ (48 + n / 10 / 10 / 10 % 10) ∷ (48 + n / 10 / 10 % 10) ∷ (48 + n / 10 % 10) ∷ (48 + n % 10) ∷ []
-        five-digits l₄ l = more 4 n l₁ (more 3 (n / 10) l₂ (more 2 (n / 10 / 10) l₃ (more 1 (n / 10 / 10 / 10) l₄ (only 0 (n / 10 / 10 / 10 / 10) (omega arith)))))
+            → decimals 5 n
+            ≡ (48 + n / 10 / 10 / 10 / 10) ∷ (48 + n / 10 / 10 / 10 % 10) ∷ (48 + n / 10 / 10 % 10) ∷ (48 + n / 10 % 10) ∷ (48 + n % 10) ∷
+            []
+        five-digits l₄ l =
+            more 4 n l₁
+            (more 3 (n / 10) l₂ (more 2 (n / 10 / 10) l₃ (more 1 (n / 10 / 10 / 10) l₄ (only 0 (n / 10 / 10 / 10 / 10) (omega arith)))))
 
-pub refused-text : (number line : ℕ) {ds : List ℕ} → number < 10 → decimals 5 line ≡ ds → refusedStart (48 + number) (ds ++ (10 ∷ [])) ≡ refusedText number line
+pub refused-text : (number line : ℕ) {ds : List ℕ} → number < 10 → decimals 5 line ≡ ds
+    → refusedStart (48 + number) (ds ++ (10 ∷ [])) ≡ refusedText number line
 refused-text number line l e = λ j. 82 ∷ 69 ∷ 70 ∷ 85 ∷ 83 ∷ 69 ∷ 68 ∷ 32 ∷ (sym (only 0 number l) j ++ (32 ∷ (sym e j ++ (10 ∷ []))))
 
 -- the bytes of which so many count
-pub counted : {bytes start text : List ℕ} {size n : ℕ} → (bytes ≡ start) × (size ≡ n) → take n start ≡ text → n ≤ length start → (take size bytes ≡ text) × (size ≤ length bytes)
+pub counted : {bytes start text : List ℕ} {size n : ℕ} → (bytes ≡ start) × (size ≡ n) → take n start ≡ text → n ≤ length start
+    → (take size bytes ≡ text) × (size ≤ length bytes)
 counted {bytes} {start} {text} {size} {n} e f l = ((λ j. take (e .1 j) (e .0 j)) ∙ f, omega (arith, ap length (e .0), e .1))

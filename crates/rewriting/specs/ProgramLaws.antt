@@ -32,7 +32,8 @@ later-count b [] = go (eqb b 0x0A)
     go false = omega arith
 later-count b (c ∷ t) = go (eqb b 0x0A) (later-count c t)
   where
-    go : (x : Bool) → length (laterLines (c ∷ t)) ≤ length t → length (cond x (starts (c ∷ t) (laterLines (c ∷ t))) (laterLines (c ∷ t))) ≤ length (c ∷ t)
+    go : (x : Bool) → length (laterLines (c ∷ t)) ≤ length t
+        → length (cond x (starts (c ∷ t) (laterLines (c ∷ t))) (laterLines (c ∷ t))) ≤ length (c ∷ t)
     go true h = omega arith
     go false h = omega arith
 
@@ -45,7 +46,9 @@ end-line : (t : Reading) → afterLastLine t .line ≤ t .lines + 1
 unfolding afterLastLine
 end-line t = go (eqb (t .last) 0xFF) (circular (rows hierarchy (t .rules)) || circular (rows prerequisite (t .rules)))
   where
-    go : (x y : Bool) → cond (not x) (notLoaded 8 (t .lines + 1)) (cond y (notLoaded 9 (t .lines)) (record { number = 0; line = 0; rules = t .rules })) .line ≤ t .lines + 1
+    go : (x y : Bool)
+        → cond (not x) (notLoaded 8 (t .lines + 1)) (cond y (notLoaded 9 (t .lines)) (record { number = 0; line = 0; rules = t .rules }))
+        .line ≤ t .lines + 1
     go false y = omega arith
     go true true = omega arith
     go true false = omega arith
@@ -86,7 +89,8 @@ module _ (t : List ℕ) where
     prints-bundle e = rw (le-ltb 65536 (length t) short, eq-eqb (load t .number) 0 e) refl
 
 -- the same bytes are shown alike
-pub shown-same : {r : ℕ} {a : List ℕ} (b : List ℕ) {s t : List ℕ} → s ≡ t → (r ≡ shownLength s b) × (a ≡ shown s b) → (r ≡ shownLength t b) × (a ≡ shown t b)
+pub shown-same : {r : ℕ} {a : List ℕ} (b : List ℕ) {s t : List ℕ} → s ≡ t → (r ≡ shownLength s b) × (a ≡ shown s b)
+    → (r ≡ shownLength t b) × (a ≡ shown t b)
 shown-same {r} {a} b e h = subst (λ (x : List ℕ). (r ≡ shownLength x b) × (a ≡ shown x b)) e h
 
 -- ---- the writer shows the bundle
@@ -97,8 +101,11 @@ module _ {r : Record} {b a : List ℕ} {w : Written} (c : Writes r b a w) (loads
   writes-none h = go (decLt (length b) (length (bundleOf r)))
     where
       go : Dec (length b < length (bundleOf r)) → (0 ≡ shownLength (bundleOf r) b) × (a ≡ shown (bundleOf r) b)
-      go (yes l) = let e = lt-leb (length (bundleOf r)) (length b) l in (rw e refl, c .buffer ∙ rw (loads, lt-ltb (length b) (length (bundleOf r)) l, e) refl)
-      go (no l) = absurd (h (ap (λ (x : Written). x .number) (c .answers) ∙ rw (loads, le-ltb (length b) (length (bundleOf r)) (omega arith)) refl))
+      go (yes l) =
+          let e = lt-leb (length (bundleOf r)) (length b) l in
+          (rw e refl, c .buffer ∙ rw (loads, lt-ltb (length b) (length (bundleOf r)) l, e) refl)
+      go (no l) =
+          absurd (h (ap (λ (x : Written). x .number) (c .answers) ∙ rw (loads, le-ltb (length b) (length (bundleOf r)) (omega arith)) refl))
 
   pub writes-whole : w .number ≡ 0 → (w .length ≡ shownLength (bundleOf r) b) × (a ≡ shown (bundleOf r) b)
   unfolding written writeRefusal lengthNeeded bufferAfter shownLength shown
@@ -106,12 +113,17 @@ module _ {r : Record} {b a : List ℕ} {w : Written} (c : Writes r b a w) (loads
     where
       go : Dec (length b < length (bundleOf r)) → (w .length ≡ shownLength (bundleOf r) b) × (a ≡ shown (bundleOf r) b)
       go (yes l) =
-          let n : w .number ≡ 18 = ap (λ (x : Written). x .number) (c .answers) ∙ rw (loads, lt-ltb (length b) (length (bundleOf r)) l) refl in
+          let n : w .number ≡ 18 = ap (λ (x : Written). x .number) (c .answers) ∙ rw (loads, lt-ltb (length b) (length (bundleOf r)) l) refl
+          in
           absurd (omega arith)
       go (no l) =
           let m : length (bundleOf r) ≤ length b = omega arith in
-          let e = le-leb (length (bundleOf r)) (length b) m in
-          (ap (λ (x : Written). x .length) (c .answers) ∙ rw (loads, e) refl, c .buffer ∙ rw (loads, le-ltb (length b) (length (bundleOf r)) m, e) refl)
+          let e = le-leb (length (bundleOf r)) (length b) m in (
+            ap (λ (x : Written). x .length) (c .answers)
+                ∙ rw (loads, e) refl,
+            c .buffer
+                ∙ rw (loads, le-ltb (length b) (length (bundleOf r)) m, e) refl,
+          )
 
 -- what is shown lies within the buffer
 pub shown-within : {r : ℕ} {a : List ℕ} (t b : List ℕ) → (r ≡ shownLength t b) × (a ≡ shown t b) → (r ≤ length a) × (r ≡ length (take r a))

@@ -54,7 +54,8 @@ fn refusal_text(number: u8, line: usize) -> Refusal
 // Puts the first n bytes of a text at the start of the buffer, and returns n. Where they do not fit: 0, the buffer untouched.
 pub fn show(buffer: &mut [u8], text: &[u8], n: usize) -> usize
     requires { ⌜ n ≤ length (now text) ⌝ }
-    ensures { λ r. ⌜ (r ≡ shownLength (take n (now (text .entry))) (now (buffer .entry))) × (now (buffer .exit) ≡ shown (take n (now (text .entry))) (now (buffer .entry))) ⌝ }
+    ensures { λ r. ⌜ (r ≡ shownLength (take n (now (text .entry))) (now (buffer .entry)))
+        × (now (buffer .exit) ≡ shown (take n (now (text .entry))) (now (buffer .entry))) ⌝ }
 {
     if buffer.len() < n {
         return 0;
@@ -69,7 +70,8 @@ pub fn show(buffer: &mut [u8], text: &[u8], n: usize) -> usize
 
 // The output for an input, at the start of the buffer, and its length. Where it does not fit: 0, the buffer untouched.
 pub fn rewritten(input: &[u8], output: &mut [u8]) -> usize
-    ensures { λ r. ⌜ (r ≡ shownLength (program (now (input .entry))) (now (output .entry))) × (now (output .exit) ≡ shown (program (now (input .entry))) (now (output .entry))) ⌝ }
+    ensures { λ r. ⌜ (r ≡ shownLength (program (now (input .entry))) (now (output .entry)))
+        × (now (output .exit) ≡ shown (program (now (input .entry))) (now (output .entry))) ⌝ }
 {
     if 65536 < input.len() {
         let long = [84, 79, 79, 32, 76, 79, 78, 71, 10];

@@ -35,7 +35,8 @@ returns-2 : tie.Need-returns-2
 returns-2 c =
     let t = c .before in
     let e = t .before in
-    counted (c .refused2 .ensures) (refused-text _ (e .before .args .line) (e .before .pre .0) (two-digits _ (omega (arith, e .if1 .left)) (t .if2 .taken))) (omega arith)
+    counted (c .refused2 .ensures)
+    (refused-text _ (e .before .args .line) (e .before .pre .0) (two-digits _ (omega (arith, e .if1 .left)) (t .if2 .taken))) (omega arith)
 
 add-d2 : tie.Need-add-d2
 add-d2 c = search needs
@@ -52,7 +53,8 @@ returns-3 c =
     let e = t .before in
     let f = e .before in
     counted (c .refused3 .ensures)
-    (refused-text _ (f .before .args .line) (f .before .pre .0) (three-digits _ (omega (arith, f .if1 .left)) (omega (arith, e .if2 .left)) (t .if3 .taken))) (omega arith)
+    (refused-text _ (f .before .args .line) (f .before .pre .0)
+    (three-digits _ (omega (arith, f .if1 .left)) (omega (arith, e .if2 .left)) (t .if3 .taken))) (omega arith)
 
 add-d1 : tie.Need-add-d1
 add-d1 c = search needs
@@ -70,7 +72,8 @@ returns-4 c =
     let f = e .before in
     let g = f .before in
     counted (c .refused4 .ensures)
-    (refused-text _ (g .before .args .line) (g .before .pre .0) (four-digits _ (omega (arith, g .if1 .left)) (omega (arith, f .if2 .left)) (omega (arith, e .if3 .left)) (t .if4 .taken))) (omega arith)
+    (refused-text _ (g .before .args .line) (g .before .pre .0)
+    (four-digits _ (omega (arith, g .if1 .left)) (omega (arith, f .if2 .left)) (omega (arith, e .if3 .left)) (t .if4 .taken))) (omega arith)
 
 add-d0 : tie.Need-add-d0
 add-d0 c = search needs
@@ -89,7 +92,8 @@ returns-5 c =
     let g = f .before in
     counted (c .refused5 .ensures)
     (refused-text _ (g .before .args .line) (g .before .pre .0)
-    (five-digits _ (omega (arith, g .if1 .left)) (omega (arith, f .if2 .left)) (omega (arith, e .if3 .left)) (omega (arith, t .if4 .left)) (g .before .pre .1))) (omega arith)
+    (five-digits _ (omega (arith, g .if1 .left)) (omega (arith, f .if2 .left)) (omega (arith, e .if3 .left)) (omega (arith, t .if4 .left))
+    (g .before .pre .1))) (omega arith)
 
 pub refusal-text-spec : {M : Type 1} → statement M
 refusal-text-spec =

@@ -42,8 +42,11 @@ load-requires c κs = search needs
 
 refusal-text-requires : tie.Need-refusal-text-requires
 refusal-text-requires c κs =
-    let h = c .before .before in
-    (omega (arith, load-number (text h), ap (λ (l : Loaded). l .number) (h .load .ensures)), omega (arith, load-line (text h), short h, ap (λ (l : Loaded). l .line) (h .load .ensures)))
+    let h = c .before .before in (
+      omega (arith, load-number (text h), ap (λ (l : Loaded). l .number) (h .load .ensures)),
+      omega
+          (arith, load-line (text h), short h, ap (λ (l : Loaded). l .line) (h .load .ensures)),
+    )
 
 slice-aggregate-show-2 : tie.Need-slice-aggregate-show-2
 slice-aggregate-show-2 c = search needs
@@ -60,7 +63,9 @@ returns-2 c =
     let e = h .load .ensures in
     let t : h .load .result .number ≢ 0 = c .before .before .before .before .before .before .before .if2 .taken in
     let n : load (text h) .number ≢ 0 = λ z. t (ap (λ (l : Loaded). l .number) e ∙ z) in
-    shown-same _ (c .before .before .before .before .before .before .refusal-text .ensures .0 ∙ (λ j. refusedText (e j .number) (e j .line)) ∙ prints-refusal (text h) (short h) n) (c .before .before .show2 .ensures)
+    shown-same _ (c .before .before .before .before .before .before .refusal-text .ensures .0
+    ∙ (λ j. refusedText (e j .number) (e j .line))
+    ∙ prints-refusal (text h) (short h) n) (c .before .before .show2 .ensures)
 
 write-requires : tie.Need-write-requires
 write-requires c κs = search needs
@@ -70,7 +75,8 @@ loads : (c : tie.Else2) → loadable (c .before .before .load .result .rules) �
 loads c =
     let h = c .before .before in
     let e = h .load .ensures in
-    subst (λ (l : Loaded). loadable (l .rules) ≡ true) (sym e) (as-loaded (text h) (ap (λ (l : Loaded). l .number) (sym e) ∙ c .if2 .left) .loads)
+    subst (λ (l : Loaded). loadable (l .rules) ≡ true) (sym e)
+    (as-loaded (text h) (ap (λ (l : Loaded). l .number) (sym e) ∙ c .if2 .left) .loads)
 
 prints : (c : tie.Else2) → bundleOf (c .before .before .load .result .rules) ≡ program (text (c .before .before))
 prints c =
@@ -82,13 +88,17 @@ same-length-3 : tie.Need-same-length-3
 same-length-3 c = search needs
 
 returns-3 : tie.Need-returns-3
-returns-3 c = let e = c .before .before .before .before .before .before .before in shown-same _ (prints e) (writes-none (c .before .before .before .before .write .ensures) (loads e) (c .if3 .taken))
+returns-3 c =
+    let e = c .before .before .before .before .before .before .before in
+    shown-same _ (prints e) (writes-none (c .before .before .before .before .write .ensures) (loads e) (c .if3 .taken))
 
 same-length-4 : tie.Need-same-length-4
 same-length-4 c = search needs
 
 returns-4 : tie.Need-returns-4
-returns-4 c = let e = c .before .before .before .before .before .before .before in shown-same _ (prints e) (writes-whole (c .before .before .before .before .write .ensures) (loads e) (c .if3 .left))
+returns-4 c =
+    let e = c .before .before .before .before .before .before .before in
+    shown-same _ (prints e) (writes-whole (c .before .before .before .before .write .ensures) (loads e) (c .if3 .left))
 
 pub rewritten-spec : {M : Type 1} → statement M
 rewritten-spec =

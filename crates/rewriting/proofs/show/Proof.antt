@@ -34,7 +34,8 @@ loop-less : tie.Need-loop-less Inv-loop μ-loop
 loop-less c = omega arith
 
 loop-again : tie.Need-loop-again Inv-loop μ-loop
-loop-again c = let l = c .before .before in (copied-more (l .loop .inv .0) (omega arith) (omega (arith, l .before .before .pre)), omega arith)
+loop-again c =
+    let l = c .before .before in (copied-more (l .loop .inv .0) (omega arith) (omega (arith, l .before .before .pre)), omega arith)
 
 same-length : tie.Need-same-length Inv-loop μ-loop
 same-length c =

@@ -1,4 +1,0 @@
-pub mod Adding
-pub mod Answers
-pub mod Digits
-pub mod Short
