@@ -22,7 +22,7 @@ use Rattle.formula.specs.EvaluationLaws.{true-at-holds}
 use Rattle.justification.specs.Justification.{members, candidates, least}
 use Rattle.justification.specs.declared.Question.{Question}
 use Rattle.justification.specs.Predicates.{questionRefusal}
-use Rattle.justification.specs.NamedLaws.{principal-named}
+use Rattle.policy.specs.NamedLaws.{principal-named}
 use Rattle.justification.specs.MarkedSets.{Marks}
 use Rattle.memo.specs.Memo.{value}
 use Rattle.memo.specs.Walk.{formulaOf, granted, denied, outcome, evaluatedAll, eagerly, tried, knownFalse, afterWeighing, walk, tryNext}

@@ -24,7 +24,7 @@ use Rattle.access.specs.CorrectMemo.{numberOf, setOf, LeastAnswer}
 use Rattle.access.specs.CorrectMemoLaws.{eager-true, lazy-true}
 use Rattle.history.specs.Book.{Book, plain, askRefusal, verdict, enabledIn, ask, numberAndSet}
 use Rattle.history.specs.Agrees.{Agrees}
-use Rattle.history.specs.SizedLaws.{sized-memo}
+use Rattle.policy.specs.SizedLaws.{sized-memo}
 
 -- ---- what stays as the bundle has it
 

@@ -30,7 +30,7 @@ use Rattle.access.specs.CorrectMemo.{CorrectMemo}
 use Rattle.history.specs.Book.{Book, holdsEdge, add, remove, addRefusal, removeRefusal, bookAfterCall}
 use Rattle.policy.specs.TableLaws.{Sized}
 use Rattle.policy.specs.LoadableLaws.{table-few, loadable-table}
-use Rattle.history.specs.SizedLaws.{sized-changed}
+use Rattle.policy.specs.SizedLaws.{sized-changed}
 use Rattle.history.specs.Agrees.{Distinct, none, more, Agrees}
 
 -- ---- edges with one more, and with one less

@@ -1,6 +1,5 @@
 pub mod Book
 pub mod Agrees
-pub mod SizedLaws
 pub mod EditAgrees
 pub mod AskAgrees
 pub mod Demand3

@@ -6,4 +6,3 @@ pub mod MarkedSets
 pub mod OrderFact
 pub mod MaskLaws
 pub mod GuardLaws
-pub mod NamedLaws

@@ -17,7 +17,7 @@ use Rattle.policy.specs.Loadable.{tableLoads}
 use Rattle.policy.specs.LoadableLaws.{table-few}
 use Rattle.justification.specs.declared.Question.{Question}
 use Rattle.justification.specs.Justification.{members, candidates, least}
-use Rattle.justification.specs.NamedLaws.{principal-named}
+use Rattle.policy.specs.NamedLaws.{principal-named}
 use Rattle.memo.specs.Memo.{known, value, noted, evaluated, memoFor}
 use Rattle.memo.specs.Walk.{formulaOf, evaluatedAll, Weighed, ends, tried, knownFalse, afterWeighing, tryNext, searching}
 use Rattle.memo.specs.WalkLaws.{All, all-those, all-append, every-ext, first-ext, MemoLengths, FormulasInMemo}

@@ -15,3 +15,6 @@ pub mod EdgeLaws
 pub mod ChangedLaws
 pub mod ColumnLaws
 pub mod EditLaws
+pub mod NamedLaws
+pub mod SizedLaws
+pub mod MemoLaws

@@ -12,7 +12,7 @@ use Rattle.policy.specs.LoadableLaws.{hierarchy-pairs, table-few}
 use Rattle.justification.specs.Justification.{demarcationHas}
 use Rattle.justification.specs.GuardLaws.{demarcation-gathers}
 use Rattle.justification.proofs.Marking.{stored}
-use Rattle.justification.specs.NamedLaws.{principal-named}
+use Rattle.policy.specs.NamedLaws.{principal-named}
 use borrow.Author.Needs.{needs}
 use Rattle.justification.proofs.grants_of.Statement.{statement}
 use Rattle.justification.proofs.grants_of.Tie as tie

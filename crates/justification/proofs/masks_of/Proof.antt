@@ -4,7 +4,7 @@ use native.Mathlib.Omega.{arith}
 use borrow.Author.Needs.{needs}
 use Rattle.policy.specs.Table.{principal, exclusion, prerequisite, method}
 use Rattle.policy.specs.LoadableLaws.{prerequisite-pairs, table-few}
-use Rattle.justification.specs.NamedLaws.{exclusion-named}
+use Rattle.policy.specs.NamedLaws.{exclusion-named}
 use Rattle.justification.proofs.masks_of.Statement.{statement}
 use Rattle.justification.proofs.masks_of.Tie as tie
 

@@ -7,7 +7,7 @@ use Rattle.common.specs.Limits.{mostFormulas, mostPrincipals}
 use Rattle.common.specs.Lists.{below}
 use Rattle.policy.specs.Table.{edge, formula, principal}
 use Rattle.policy.specs.LoadableLaws.{table-few}
-use Rattle.justification.specs.NamedLaws.{principal-named}
+use Rattle.policy.specs.NamedLaws.{principal-named}
 use Rattle.memo.specs.Walk.{formulaOf, evaluatedAll}
 use Rattle.formula.specs.Evaluation.{trueAtObject}
 use Rattle.memo.proofs.Memos.{evaluated-none, evaluated-more}

@@ -6,7 +6,7 @@ use borrow.Author.Needs.{needs}
 use Rattle.common.specs.Limits.{mostFormulas, mostPrincipals}
 use Rattle.policy.specs.Table.{edge, formula, principal}
 use Rattle.policy.specs.LoadableLaws.{table-few}
-use Rattle.justification.specs.NamedLaws.{principal-named}
+use Rattle.policy.specs.NamedLaws.{principal-named}
 use Rattle.memo.specs.Walk.{formulaOf}
 use Rattle.formula.specs.Evaluation.{trueAtObject}
 use Rattle.memo.proofs.Weighing.{Left, left-all, left-skip, left-on, left-ends, left-none}

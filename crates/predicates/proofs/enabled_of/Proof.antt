@@ -15,7 +15,7 @@ use Rattle.formula.specs.Evaluation.{trueAtObject}
 use Rattle.formula.specs.EvaluationLaws.{true-at-holds}
 use Rattle.justification.specs.declared.Question.{Question}
 use Rattle.justification.specs.Predicates.{isEnabled}
-use Rattle.justification.specs.NamedLaws.{principal-named}
+use Rattle.policy.specs.NamedLaws.{principal-named}
 use Rattle.justification.specs.MarkedSets.{Those}
 use Rattle.justification.proofs.Marking.{those-none, those-more, those-skip, those-end}
 use Rattle.predicates.proofs.enabled_of.Statement.{statement}

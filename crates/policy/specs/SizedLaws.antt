@@ -4,21 +4,22 @@ use mathlib.Core.Path.{_≡_}
 use mathlib.Core.List.{List, map}
 use native.Mathlib.Omega.{arith}
 use lib.ListN.{length, replicate, length-append, length-map, length-replicate}
+use Rattle.common.specs.Limits.{mostEdges}
 use Rattle.common.specs.Lists.{at}
 use Rattle.policy.specs.declared.Record.{Record}
 use Rattle.policy.specs.declared.Memo.{Memo}
 use Rattle.policy.specs.Table.{user, edge, formula, demarcation, hierarchy, principal, exclusion, prerequisite, method, column, changed}
 use Rattle.policy.specs.Table.{withMemo}
 use Rattle.policy.specs.TableLaws.{Sized, sized}
 
-column-long : (j : ℕ) (es : List (List ℕ)) → length es ≤ 512 → length (column j es) ≡ 512
+column-long : (j : ℕ) (es : List (List ℕ)) → length es ≤ mostEdges → length (column j es) ≡ mostEdges
 column-long j es few =
-    let a = length-append (map (λ e. at e j) es) (replicate (512 - length es) 0) in
+    let a = length-append (map (λ e. at e j) es) (replicate (mostEdges - length es) 0) in
     let b = length-map es (λ e. at e j) in
-    let c = length-replicate {A = ℕ} (512 - length es) 0 in
+    let c = length-replicate {A = ℕ} (mostEdges - length es) 0 in
     omega arith
 
-pub sized-changed : (r : Record) (es : List (List ℕ)) (m : Memo) → length es ≤ 512 → Sized r → Sized (changed r es m)
+pub sized-changed : (r : Record) (es : List (List ℕ)) (m : Memo) → length es ≤ mostEdges → Sized r → Sized (changed r es m)
 unfolding changed
 sized-changed r es m few s =
     sized _ (s .long user) (column-long 0 es few, (column-long 1 es few, (column-long 2 es few, tt))) (s .long formula)
