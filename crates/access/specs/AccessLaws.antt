@@ -182,7 +182,8 @@ fewer-evaluations r q all h =
           (q .method) after,
     )
     (newly-fewer before (left (walk truth r before (candidates r (q .method)))) after
-    (walk-within (known after) truth r (candidates r (q .method)) before (all-known truth r (below (r .«principal_count»)) before lengths all)
+    (walk-within (known after) truth r (candidates r (q .method)) before (all-known truth r (below (r .«principal_count»)) before lengths
+    all)
     (all-through truth r (below (r .«principal_count»)) before lengths all .keeps))))
   where
     truth : ℕ → Bool

@@ -143,7 +143,31 @@ module _ (r : Record) (typed : Typed r) (loads : loadable r ≡ true) where
           (
             refl,
             omega arith,
-            (refl, omega arith, (refl, omega arith, (refl, omega arith, (refl, omega arith, (refl, omega arith, (refl, omega arith, refl)))))),
+            (
+              refl,
+              omega arith,
+              (
+                refl,
+                omega arith,
+                (
+                  refl,
+                  omega arith,
+                  (
+                    refl,
+                    omega arith,
+                    (
+                      refl,
+                      omega arith,
+                      (
+                        refl,
+                        omega arith,
+                        refl,
+                      ),
+                    ),
+                  ),
+                ),
+              ),
+            ),
           ),
         ),
       )

@@ -43,7 +43,8 @@ module _ (r : Record) (m : ℕ) (bounded : at (r .«method_privileges») m < 2 ^
     (gives : (k : ℕ) → In k (at (r .«method_privileges») m) → (In k g ↔ (have r ps k ≡ true))) where
   by-form : (one : Bool)
       →
-      ((cond one (any (have r ps) (listed r m)) (every (have r ps) (listed r m)) ≡ true) ↔ MetBy (not one) (at (r .«method_privileges») m) g)
+      ((cond one (any (have r ps) (listed r m)) (every (have r ps) (listed r m)) ≡ true) ↔ MetBy (not one) (at (r .«method_privileges») m)
+      g)
   by-form true =
       let e = some-of (have r ps) (λ j. member j (at (r .«method_privileges») m)) 64 in (
         λ t. let (j, l, w, h) = e .0 t in (j, member-in w, gives j (member-in w) .1 h),

@@ -70,7 +70,8 @@ module _ (r : Record) (m a : ℕ) (s : Masks) (k : Masked r m a s) (c : ℕ) (in
   apart-pairs = (
     λ h i l x y. h _ _ x y
         (or-left _ _
-        (table-any (same (at (r .«exclusion_lows») i ∷ at (r .«exclusion_highs») i ∷ [])) (λ j. row exclusion j r) (r .«exclusion_count») i l
+        (table-any (same (at (r .«exclusion_lows») i ∷ at (r .«exclusion_highs») i ∷ [])) (λ j. row exclusion j r) (r .«exclusion_count»)
+        i l
         (row-is r i))),
     λ h p q x y e. ⊎-elim (λ t. paired p q t h x y) (λ t. paired q p t h y x) (or-cases (any (same (p ∷ q ∷ [])) (rows exclusion r)) _ e),
   )

@@ -3,7 +3,8 @@ use Prim.Native.Nat.{ℕ, _+_, _≤_, _<_}
 use mathlib.Core.Path.{_≡_, refl}
 use mathlib.Core.Logic.{_≢_}
 use native.Mathlib.Omega.{arith}
-use Rattle.policy.specs.Table.{Kind, head, user, edge, formula, demarcation, hierarchy, principal, exclusion, prerequisite, method, end, code, kindOf}
+use Rattle.policy.specs.Table.{Kind, head, user, edge, formula, demarcation, hierarchy, principal, exclusion, prerequisite, method, end}
+use Rattle.policy.specs.Table.{code, kindOf}
 use Rattle.policy.specs.LinesBefore.{none-between}
 use Rattle.policy.specs.Rows.{key}
 use Rattle.lines.specs.declared.Row.{Row}
@@ -39,5 +40,6 @@ pub last-kind : {kind : ℕ} → TableKind kind → NoneOf kind → kind ≡ cod
 last-kind {kind} t m =
     let e = t .known in
     let h = none-between method (kindOf kind) (let l = t .high in omega arith) in
-    last kind (later kind (t .low) (m .0 .0 .0 .0 .0 .0 .0 .1) (m .0 .0 .0 .0 .0 .0 .1) (m .0 .0 .0 .0 .0 .1) (m .0 .0 .0 .0 .1)) (omega arith)
+    last kind (later kind (t .low) (m .0 .0 .0 .0 .0 .0 .0 .1) (m .0 .0 .0 .0 .0 .0 .1) (m .0 .0 .0 .0 .0 .1) (m .0 .0 .0 .0 .1))
+    (omega arith)
     (m .0 .0 .0 .1) (m .0 .0 .1) (m .0 .1) (m .1)

@@ -94,7 +94,8 @@ module _ (text : List ℕ) (offset kind size : ℕ) where
 
   pub refused-line : {n : ℕ} → nextOf text offset kind size ≡ Refused n → RefusedLine n
   refused-line {n} e =
-      ⊎-elim (λ l. absurd (let z : _≡_ {A = ℕ} 0 1 = cc (past-text l) in omega arith)) (λ l. go l (frame (drop offset text)) refl) past-or-within
+      ⊎-elim (λ l. absurd (let z : _≡_ {A = ℕ} 0 1 = cc (past-text l) in omega arith)) (λ l. go l (frame (drop offset text)) refl)
+      past-or-within
     where
       pick : (l : offset < length text) (os : List ℕ) → frame (drop offset text) ≡ octets os → (x y : Bool) → eqb (kindOctet os) kind ≡ x
           → eqb (length os) size ≡ y → cond x (cond y (Body (offset + 2 * length os + 1) (total os)) (Refused wrongKind)) Other ≡ Refused n
@@ -111,10 +112,12 @@ module _ (text : List ℕ) (offset kind size : ℕ) where
   -- a line of this kind and size
   pub found-line : {next sum : ℕ} → nextOf text offset kind size ≡ Body next sum → FoundLine text offset kind size next sum
   found-line {next} {sum} e =
-      ⊎-elim (λ l. absurd (let z : _≡_ {A = ℕ} 0 1 = cc (past-text l) in omega arith)) (λ l. go l (frame (drop offset text)) refl) past-or-within
+      ⊎-elim (λ l. absurd (let z : _≡_ {A = ℕ} 0 1 = cc (past-text l) in omega arith)) (λ l. go l (frame (drop offset text)) refl)
+      past-or-within
     where
       pick : (l : offset < length text) (os : List ℕ) → frame (drop offset text) ≡ octets os → (x y : Bool) → eqb (kindOctet os) kind ≡ x
-          → eqb (length os) size ≡ y → cond x (cond y (Body (offset + 2 * length os + 1) (total os)) (Refused wrongKind)) Other ≡ Body next sum
+          → eqb (length os) size ≡ y
+          → cond x (cond y (Body (offset + 2 * length os + 1) (total os)) (Refused wrongKind)) Other ≡ Body next sum
           → FoundLine text offset kind size next sum
       pick l os f true true p q z =
           record {

@@ -48,4 +48,5 @@ module _ (text : List ℕ) (offset kind size : ℕ) where
         next-size ne = sym (found ∙ rw (ours, ne-eqb (length (t .os)) size (λ z. ne (t .counted ∙ z))))
 
         pub next-body : count ≡ size → Body next sum ≡ nextOf text offset kind size
-        next-body s = sym (found ∙ rw (ours, eq-eqb (length (t .os)) size (sym (t .counted) ∙ s)) (sym (λ i. Body (t .follows i) (t .summed i))))
+        next-body s =
+            sym (found ∙ rw (ours, eq-eqb (length (t .os)) size (sym (t .counted) ∙ s)) (sym (λ i. Body (t .follows i) (t .summed i))))

@@ -23,9 +23,16 @@ module _ {t : List ℕ} {k value i : ℕ} (v : Value t k value i) where
   unfolding numberAt
   value-more {o} e l =
       record {
-        same = (λ j. v .same j * 256 + e j) ∙ sym (number-last 0 (table i (λ x. octetAt t (k + x))) (octetAt t (k + i))) ∙ ap (numberAt t k) (sym (add-one i));
-        below = subst (λ (m : ℕ). value * 256 + o < m) (sym (pow-suc 256 i) ∙ ap (λ (n : ℕ). 256 ^ n) (sym (add-one i))) (let b = v .below in omega arith);
+        same =
+            (λ j. v .same j * 256 + e j)
+            ∙ sym (number-last 0 (table i (λ x. octetAt t (k + x))) (octetAt t (k + i)))
+            ∙ ap (numberAt t k) (sym (add-one i));
+        below =
+            subst (λ (m : ℕ). value * 256 + o < m) (sym (pow-suc 256 i) ∙ ap (λ (n : ℕ). 256 ^ n) (sym (add-one i)))
+            (let b = v .below in omega arith);
       }
 
   pub value-fits : i < 8 → value < 256 ^ 7
-  value-fits l = let z : 0 < 256 = omega arith in let m : i ≤ 7 = omega arith in let p : 256 ^ i ≤ 256 ^ 7 = pow-le-pow-right z m in let b = v .below in omega arith
+  value-fits l =
+      let z : 0 < 256 = omega arith in
+      let m : i ≤ 7 = omega arith in let p : 256 ^ i ≤ 256 ^ 7 = pow-le-pow-right z m in let b = v .below in omega arith

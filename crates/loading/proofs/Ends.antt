@@ -26,7 +26,8 @@ use Rattle.reading.specs.declared.Stage.{Stage}
 use Rattle.reading.specs.Body.{numbers}
 use Rattle.reading.specs.Loading.{Reading, misplaced, endWrong, lineRefusal, afterLine, notLoaded, afterLastLine, read, load}
 use Rattle.reading.specs.Stages.{reading, loadedFrom, afterEnd, endedAt, Ready}
-use Rattle.reading.proofs.OneLine.{misplaced-other, misplaced-after, well-placed, refused-place, read-not, read-on, body-length, refused-reading}
+use Rattle.reading.proofs.OneLine.{misplaced-other, misplaced-after, well-placed, refused-place, read-not, read-on, body-length}
+use Rattle.reading.proofs.OneLine.{refused-reading}
 use Rattle.reading.proofs.Bodies.{numbers-are}
 use Rattle.reading.proofs.Partway.{from-on}
 
@@ -53,7 +54,8 @@ read-ended t (octets os ∷ ls) e =
 abbrev rest : List ℕ → Stage → List ℕ
 rest text s = drop (s .cursor .offset) text
 
-pub finish-refused : (text : List ℕ) (s : Stage) → s .cursor .number ≢ 0 → notLoaded (s .cursor .number) (s .cursor .lines) ≡ loadedFrom text s
+pub finish-refused : (text : List ℕ) (s : Stage) → s .cursor .number ≢ 0
+    → notLoaded (s .cursor .number) (s .cursor .lines) ≡ loadedFrom text s
 unfolding loadedFrom
 finish-refused text s h = rw (ne-eqb (s .cursor .number) 0 h)
 
@@ -73,18 +75,23 @@ module _ (text : List ℕ) (s : Stage) (z : s .cursor .number ≡ 0) (r : Ready 
       ∙ rw (ne-eqb (s .cursor .last) 0xFF not-ended))
 
   -- a line of another kind
-  pub finish-other : s .cursor .offset < length text → nextOf text (s .cursor .offset) 0xFF 9 ≡ Other → notLoaded wrongKind (s .cursor .lines + 1) ≡ loadedFrom text s
+  pub finish-other : s .cursor .offset < length text → nextOf text (s .cursor .offset) 0xFF 9 ≡ Other
+      → notLoaded wrongKind (s .cursor .lines + 1) ≡ loadedFrom text s
   finish-other l e =
       let (os, f, h) = other-line text (s .cursor .offset) 0xFF 9 l e in
       let k = kindOf (kindOctet os) in
-      sym (on ∙ read-not (reading s) text (s .cursor .offset) l f k refl (refused-place (reading s) k os (wrong os f h (ℕ-discrete (kindOctet os) (code k)))) (λ q. omega arith))
+      sym (on
+      ∙ read-not (reading s) text (s .cursor .offset) l f k refl
+      (refused-place (reading s) k os (wrong os f h (ℕ-discrete (kindOctet os) (code k)))) (λ q. omega arith))
     where
-      wrong : (os : List ℕ) → frame (rest text s) ≡ octets os → kindOctet os ≢ 0xFF → Dec (kindOctet os ≡ code (kindOf (kindOctet os))) → misplaced (reading s) (kindOf (kindOctet os)) os ≡ true
+      wrong : (os : List ℕ) → frame (rest text s) ≡ octets os → kindOctet os ≢ 0xFF → Dec (kindOctet os ≡ code (kindOf (kindOctet os)))
+          → misplaced (reading s) (kindOf (kindOctet os)) os ≡ true
       wrong os f h (yes q) = r .others os f (let c = kind-octet _ f in omega arith)
       wrong os f h (no q) = misplaced-other (reading s) (kindOf (kindOctet os)) os q
 
   pub finish-unread : (n : ℕ) → nextOf text (s .cursor .offset) 0xFF 9 ≡ Refused n → notLoaded n (s .cursor .lines + 1) ≡ loadedFrom text s
-  finish-unread n e = sym (on ∙ refused-reading (reading s) text (s .cursor .offset) end 9 n refl (refused-line text (s .cursor .offset) 0xFF 9 e) .1)
+  finish-unread n e =
+      sym (on ∙ refused-reading (reading s) text (s .cursor .offset) end 9 n refl (refused-line text (s .cursor .offset) 0xFF 9 e) .1)
 
   module _ {next sum : ℕ} (f : FoundLine text (s .cursor .offset) 0xFF 9 next sum) where
     known : kindOf (kindOctet (f .os)) ≡ end
@@ -104,25 +111,40 @@ module _ (text : List ℕ) (s : Stage) (z : s .cursor .number ≡ 0) (r : Ready 
     end-refusal : lineRefusal (reading s) end (f .os)
         ≡ cond (not (eqb (numberAt (rest text s) 2 2) (s .cursor .lines) && eqb (numberAt (rest text s) 4 4) (s .cursor .sum))) wrongEnd 0
     unfolding lineRefusal endWrong rowCauses inRange
-    end-refusal = rw placed (λ i. cond (not (eqb (at (numbers-end i) 0) (s .cursor .lines) && eqb (at (numbers-end i) 1) (s .cursor .sum))) wrongEnd 0)
+    end-refusal =
+        rw placed
+        (λ i. cond (not (eqb (at (numbers-end i) 0) (s .cursor .lines) && eqb (at (numbers-end i) 1) (s .cursor .sum))) wrongEnd 0)
 
-    pub finish-count : {n : ℕ} → n ≡ numberAt (rest text s) 2 2 → n ≢ s .cursor .lines → notLoaded wrongEnd (s .cursor .lines + 1) ≡ loadedFrom text s
+    pub finish-count : {n : ℕ} → n ≡ numberAt (rest text s) 2 2 → n ≢ s .cursor .lines
+        → notLoaded wrongEnd (s .cursor .lines + 1) ≡ loadedFrom text s
     finish-count {n} e h =
         sym (on ∙ read-not (reading s) text (s .cursor .offset) (f .within) (f .framed) end known
         (end-refusal ∙ rw (ne-eqb (numberAt (rest text s) 2 2) (s .cursor .lines) (λ q. h (e ∙ q)))) (λ q. omega arith))
 
-    pub finish-sum : {n : ℕ} → n ≡ numberAt (rest text s) 4 4 → n ≢ s .cursor .sum → notLoaded wrongEnd (s .cursor .lines + 1) ≡ loadedFrom text s
+    pub finish-sum : {n : ℕ} → n ≡ numberAt (rest text s) 4 4 → n ≢ s .cursor .sum
+        → notLoaded wrongEnd (s .cursor .lines + 1) ≡ loadedFrom text s
     finish-sum {n} e h =
         sym (on ∙ read-not (reading s) text (s .cursor .offset) (f .within) (f .framed) end known
-        (end-refusal ∙ rw (ne-eqb (numberAt (rest text s) 4 4) (s .cursor .sum) (λ q. h (e ∙ q)), and-false (eqb (numberAt (rest text s) 2 2) (s .cursor .lines)))) (λ q. omega arith))
+        (end-refusal
+        ∙ rw (
+          ne-eqb (numberAt (rest text s) 4 4) (s .cursor .sum) (λ q. h (e ∙ q)),
+          and-false
+              (eqb (numberAt (rest text s) 2 2) (s .cursor .lines)),
+        )) (λ q. omega arith))
 
-    pub finish-ended : {n m : ℕ} → n ≡ numberAt (rest text s) 2 2 → n ≡ s .cursor .lines → m ≡ numberAt (rest text s) 4 4 → m ≡ s .cursor .sum
+    pub finish-ended : {n m : ℕ} → n ≡ numberAt (rest text s) 2 2 → n ≡ s .cursor .lines → m ≡ numberAt (rest text s) 4 4
+        → m ≡ s .cursor .sum
         → endedAt text next (s .cursor .lines + 1) (s .rules) ≡ loadedFrom text s
     unfolding endedAt afterLine appended
     finish-ended e e′ g g′ =
         sym (on
         ∙ read-on (reading s) text (s .cursor .offset) (f .within) (f .framed) end known
-        (end-refusal ∙ rw (eq-eqb (numberAt (rest text s) 2 2) (s .cursor .lines) (sym e ∙ e′), eq-eqb (numberAt (rest text s) 4 4) (s .cursor .sum) (sym g ∙ g′)))
+        (end-refusal
+        ∙ rw (
+          eq-eqb (numberAt (rest text s) 2 2) (s .cursor .lines) (sym e ∙ e′),
+          eq-eqb (numberAt (rest text s) 4 4) (s .cursor .sum)
+              (sym g ∙ g′),
+        ))
         ∙ read-ended (afterLine (reading s) end (f .os)) _ refl
         ∙ ap (λ (n : ℕ). afterEnd (s .cursor .lines + 1) (s .rules) (lines (drop n text))) (sym (f .follows)))
 
@@ -132,12 +154,17 @@ module _ (text : List ℕ) (offset n : ℕ) (r : Record) where
   pub ended-refused : offset < length text → {k : ℕ} → frame (drop offset text) ≡ refused k → notLoaded k (n + 1) ≡ endedAt text offset n r
   unfolding endedAt
   ended-refused l e =
-      sym (ap (afterEnd n r) (lines-cons (drop offset text) (omega (arith, length-drop offset text)) ∙ ap (λ (f : Framed). f ∷ lines (restOf (drop offset text))) e))
+      sym (ap (afterEnd n r)
+      (lines-cons (drop offset text) (omega (arith, length-drop offset text)) ∙ ap (λ (f : Framed). f ∷ lines (restOf (drop offset text)))
+      e))
 
-  pub ended-more : offset < length text → {os : List ℕ} → frame (drop offset text) ≡ octets os → notLoaded wrongKind (n + 1) ≡ endedAt text offset n r
+  pub ended-more : offset < length text → {os : List ℕ} → frame (drop offset text) ≡ octets os
+      → notLoaded wrongKind (n + 1) ≡ endedAt text offset n r
   unfolding endedAt
   ended-more l e =
-      sym (ap (afterEnd n r) (lines-cons (drop offset text) (omega (arith, length-drop offset text)) ∙ ap (λ (f : Framed). f ∷ lines (restOf (drop offset text))) e))
+      sym (ap (afterEnd n r)
+      (lines-cons (drop offset text) (omega (arith, length-drop offset text)) ∙ ap (λ (f : Framed). f ∷ lines (restOf (drop offset text)))
+      e))
 
   ended-here : length text ≤ offset → endedAt text offset n r ≡ afterEnd n r []
   unfolding endedAt

@@ -184,7 +184,8 @@ pub fn not_known_false<'a>(count: usize, formulas: &'a [u8; MOST_PRINCIPALS], me
 // The members of c in rising number are evaluated, unless known; the first that is not enabled ends it.
 pub fn weigh(rules: Record, memo: Memo, roles: u16, question: Question, c: u32) -> Tried
     requires { ⌜ ((j : Kind) → tableLoads rules j ≡ true) ⌝ }
-    ensures { λ r. ⌜ weighedOf r ≡ tried (trueAtObject rules roles (question .object) (question .requestor)) rules memo (members rules c) ⌝ }
+    ensures { λ r. ⌜ weighedOf r
+        ≡ tried (trueAtObject rules roles (question .object) (question .requestor)) rules memo (members rules c) ⌝ }
 {
     let count = rules.principal_count;
     let object = question.object;

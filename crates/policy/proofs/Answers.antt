@@ -53,7 +53,8 @@ module _ (r : Record) (l x y : ℕ) where
       unfolding added
       add-present e = rw (loads, fits, e)
 
-      pub add-full : edgeIn (rows edge r) (l ∷ x ∷ y ∷ []) ≡ false → 512 ≤ r .«edge_count» → record { number = 13; rules = r } ≡ added r l x y
+      pub add-full : edgeIn (rows edge r) (l ∷ x ∷ y ∷ []) ≡ false → 512 ≤ r .«edge_count»
+          → record { number = 13; rules = r } ≡ added r l x y
       unfolding added
       add-full e h = rw (loads, fits, e, le-leb 512 (r .«edge_count») h)
 
@@ -62,12 +63,16 @@ module _ (r : Record) (l x y : ℕ) where
       remove-absent e = rw (loads, fits, e)
 
       -- the test at the row found
-      pub stands-in : {k at-row : ℕ} {b : Bool} → b ≡ (ltb at-row (r .«edge_count») && eqb (key edge (row edge at-row r)) k) → at-row ≡ rowOf k (rows edge r) → k ≡ edgeKey l x y
+      pub stands-in : {k at-row : ℕ} {b : Bool} → b ≡ (ltb at-row (r .«edge_count») && eqb (key edge (row edge at-row r)) k)
+          → at-row ≡ rowOf k (rows edge r) → k ≡ edgeKey l x y
           → b ≡ edgeIn (rows edge r) (l ∷ x ∷ y ∷ [])
       stands-in {k} {at-row} e p q =
           e ∙ stands-test (r .«edge_count») (λ i. row edge i r) k at-row
           ∙ ap (λ (i : ℕ). ltb i (length (rows edge r)) && eqb (key edge (getD (rows edge r) i [])) k) p
-          ∙ ap (λ (v : ℕ). ltb (rowOf v (rows edge r)) (length (rows edge r)) && eqb (key edge (getD (rows edge r) (rowOf v (rows edge r)) [])) v) q
+          ∙ ap
+          (λ (v : ℕ). ltb (rowOf v (rows edge r)) (length (rows edge r)) && eqb (key edge (getD (rows edge r) (rowOf v (rows edge r)) []))
+          v)
+          q
           ∙ row-found l x y (loadable-objects r loads) fits (loadable-rising r loads)
 
       -- the row found, of the edge itself
@@ -78,14 +83,17 @@ pub row-few : (r : Record) (k : ℕ) {at-row : ℕ} → at-row ≡ rowOf k (rows
 row-few r k p = omega (arith, row-within k (rows edge r), length-table (r .«edge_count») (λ i. row edge i r))
 
 -- a test passed at a row: the row is used
-pub stands-inside : (r : Record) (k at-row : ℕ) {b : Bool} → b ≡ (ltb at-row (r .«edge_count») && eqb (key edge (row edge at-row r)) k) → b ≡ true → at-row < r .«edge_count»
-stands-inside r k at-row e t = ltb-true at-row (r .«edge_count») (and-cases (ltb at-row (r .«edge_count»)) (eqb (key edge (row edge at-row r)) k) (sym e ∙ t) .0)
+pub stands-inside : (r : Record) (k at-row : ℕ) {b : Bool} → b ≡ (ltb at-row (r .«edge_count») && eqb (key edge (row edge at-row r)) k)
+    → b ≡ true → at-row < r .«edge_count»
+stands-inside r k at-row e t =
+    ltb-true at-row (r .«edge_count») (and-cases (ltb at-row (r .«edge_count»)) (eqb (key edge (row edge at-row r)) k) (sym e ∙ t) .0)
 
 -- ---- the record of an accepted edit
 
 edges-changed : (r : Record) (es : List (List ℕ)) {n : ℕ} {labels sources targets : List ℕ} {m : Memo}
     → n ≡ length es → labels ≡ column 0 es → sources ≡ column 1 es → targets ≡ column 2 es → m ≡ emptied 0 0
-    → _≡_ {A = Edited} (record { number = 0; rules = withEdges r n labels sources targets m }) (record { number = 0; rules = changed r es (emptied 0 0) })
+    → _≡_ {A = Edited} (record { number = 0; rules = withEdges r n labels sources targets m })
+    (record { number = 0; rules = changed r es (emptied 0 0) })
 unfolding changed
 edges-changed r es a b c d e = λ j. record { number = 0; rules = withEdges r (a j) (b j) (c j) (d j) (e j) }
 
@@ -99,14 +107,22 @@ pub record EdgeColumnLengths (r : Record) : Type 0 where
 kept : (c : List ℕ) → length (map (λ (v : ℕ). v) c) ≡ 512 → length c ≡ 512
 kept c e = sym (length-map c (λ v. v)) ∙ e
 
-pub lengths-of : (r : Record) → length (map (λ (v : ℕ). v) (r .«edge_labels»)) ≡ 512 → length (map (λ (v : ℕ). v) (r .«edge_sources»)) ≡ 512 → length (map (λ (v : ℕ). v) (r .«edge_targets»)) ≡ 512 → EdgeColumnLengths r
-lengths-of r a b c = record { labels = kept (r .«edge_labels») a; sources = kept (r .«edge_sources») b; targets = kept (r .«edge_targets») c }
+pub lengths-of : (r : Record) → length (map (λ (v : ℕ). v) (r .«edge_labels»)) ≡ 512 → length (map (λ (v : ℕ). v) (r .«edge_sources»)) ≡ 512
+    → length (map (λ (v : ℕ). v) (r .«edge_targets»)) ≡ 512 → EdgeColumnLengths r
+lengths-of r a b c =
+    record { labels = kept (r .«edge_labels») a; sources = kept (r .«edge_sources») b; targets = kept (r .«edge_targets») c }
 
 module _ (r : Record) (l x y : ℕ) (lengths : EdgeColumnLengths r) where
   pub add-accepts : Adds r l x y → {at-row : ℕ} {labels sources targets : List ℕ} {m : Memo} → at-row ≡ rowOf (edgeKey l x y) (rows edge r)
-      → labels ≡ take at-row (r .«edge_labels») ++ (l ∷ (take (r .«edge_count» - at-row) (drop at-row (r .«edge_labels»)) ++ drop (r .«edge_count» + 1) (r .«edge_labels»)))
-      → sources ≡ take at-row (r .«edge_sources») ++ (x ∷ (take (r .«edge_count» - at-row) (drop at-row (r .«edge_sources»)) ++ drop (r .«edge_count» + 1) (r .«edge_sources»)))
-      → targets ≡ take at-row (r .«edge_targets») ++ (y ∷ (take (r .«edge_count» - at-row) (drop at-row (r .«edge_targets»)) ++ drop (r .«edge_count» + 1) (r .«edge_targets»)))
+      → labels
+      ≡ take at-row (r .«edge_labels») ++
+      (l ∷ (take (r .«edge_count» - at-row) (drop at-row (r .«edge_labels»)) ++ drop (r .«edge_count» + 1) (r .«edge_labels»)))
+      → sources
+      ≡ take at-row (r .«edge_sources») ++
+      (x ∷ (take (r .«edge_count» - at-row) (drop at-row (r .«edge_sources»)) ++ drop (r .«edge_count» + 1) (r .«edge_sources»)))
+      → targets
+      ≡ take at-row (r .«edge_targets») ++
+      (y ∷ (take (r .«edge_count» - at-row) (drop at-row (r .«edge_targets»)) ++ drop (r .«edge_count» + 1) (r .«edge_targets»)))
       → m ≡ emptied 0 0
       → _≡_ {A = Edited} (record { number = 0; rules = withEdges r (r .«edge_count» + 1) labels sources targets m }) (added r l x y)
   add-accepts a {at-row} p e f g h =
@@ -116,7 +132,8 @@ module _ (r : Record) (l x y : ℕ) (lengths : EdgeColumnLengths r) where
       let size : n ≡ length es = sym (length-table n (λ i. row edge i r)) in
       let within = row-few r (edgeKey l x y) p in
       let split : inserted e₀ es ≡ take at-row es ++ (e₀ ∷ drop at-row es) =
-      row-absent l x y (loadable-objects r (a .loads)) (a .fits) (loadable-rising r (a .loads)) (a .absent) ∙ (λ j. take (sym p j) es ++ (e₀ ∷ drop (sym p j) es)) in
+      row-absent l x y (loadable-objects r (a .loads)) (a .fits) (loadable-rising r (a .loads)) (a .absent)
+      ∙ (λ j. take (sym p j) es ++ (e₀ ∷ drop (sym p j) es)) in
       edges-changed r (inserted e₀ es) (omega (arith, inserted-length e₀ es))
       (e ∙ column-more 0 es n at-row (labels-column r (a .loads) (lengths .labels)) size e₀ refl within (a .room) split)
       (f ∙ column-more 1 es n at-row (sources-column r (a .loads) (lengths .sources)) size e₀ refl within (a .room) split)
@@ -124,10 +141,17 @@ module _ (r : Record) (l x y : ℕ) (lengths : EdgeColumnLengths r) where
       h
       ∙ sym (added-when r l x y a)
 
-  pub remove-accepts : Removes r l x y → {at-row : ℕ} {labels sources targets : List ℕ} {m : Memo} → at-row ≡ rowOf (edgeKey l x y) (rows edge r) → at-row < r .«edge_count»
-      → labels ≡ take at-row (r .«edge_labels») ++ (take (r .«edge_count» - (at-row + 1)) (drop (at-row + 1) (r .«edge_labels»)) ++ (0 ∷ drop (r .«edge_count») (r .«edge_labels»)))
-      → sources ≡ take at-row (r .«edge_sources») ++ (take (r .«edge_count» - (at-row + 1)) (drop (at-row + 1) (r .«edge_sources»)) ++ (0 ∷ drop (r .«edge_count») (r .«edge_sources»)))
-      → targets ≡ take at-row (r .«edge_targets») ++ (take (r .«edge_count» - (at-row + 1)) (drop (at-row + 1) (r .«edge_targets»)) ++ (0 ∷ drop (r .«edge_count») (r .«edge_targets»)))
+  pub remove-accepts : Removes r l x y → {at-row : ℕ} {labels sources targets : List ℕ} {m : Memo}
+      → at-row ≡ rowOf (edgeKey l x y) (rows edge r) → at-row < r .«edge_count»
+      → labels
+      ≡ take at-row (r .«edge_labels») ++
+      (take (r .«edge_count» - (at-row + 1)) (drop (at-row + 1) (r .«edge_labels»)) ++ (0 ∷ drop (r .«edge_count») (r .«edge_labels»)))
+      → sources
+      ≡ take at-row (r .«edge_sources») ++
+      (take (r .«edge_count» - (at-row + 1)) (drop (at-row + 1) (r .«edge_sources»)) ++ (0 ∷ drop (r .«edge_count») (r .«edge_sources»)))
+      → targets
+      ≡ take at-row (r .«edge_targets») ++
+      (take (r .«edge_count» - (at-row + 1)) (drop (at-row + 1) (r .«edge_targets»)) ++ (0 ∷ drop (r .«edge_count») (r .«edge_targets»)))
       → m ≡ emptied 0 0
       → _≡_ {A = Edited} (record { number = 0; rules = withEdges r (r .«edge_count» - 1) labels sources targets m }) (removed r l x y)
   remove-accepts a {at-row} p within e f g h =
@@ -137,8 +161,10 @@ module _ (r : Record) (l x y : ℕ) (lengths : EdgeColumnLengths r) where
       let size : n ≡ length es = sym (length-table n (λ i. row edge i r)) in
       let few = edges-few r (a .loads) in
       let split : without e₀ es ≡ take at-row es ++ drop (suc at-row) es =
-      row-present l x y (loadable-objects r (a .loads)) (a .fits) (loadable-rising r (a .loads)) (a .present) ∙ (λ j. take (sym p j) es ++ drop (suc (sym p j)) es) in
-      edges-changed r (without e₀ es) (omega (arith, ap length split, length-append (take at-row es) (drop (suc at-row) es), length-take at-row es, length-drop (suc at-row) es))
+      row-present l x y (loadable-objects r (a .loads)) (a .fits) (loadable-rising r (a .loads)) (a .present)
+      ∙ (λ j. take (sym p j) es ++ drop (suc (sym p j)) es) in
+      edges-changed r (without e₀ es) (omega
+      (arith, ap length split, length-append (take at-row es) (drop (suc at-row) es), length-take at-row es, length-drop (suc at-row) es))
       (e ∙ column-less 0 es n at-row (labels-column r (a .loads) (lengths .labels)) size within few split)
       (f ∙ column-less 1 es n at-row (sources-column r (a .loads) (lengths .sources)) size within few split)
       (g ∙ column-less 2 es n at-row (targets-column r (a .loads) (lengths .targets)) size within few split)

@@ -56,7 +56,8 @@ module _ (j : ℕ) (es : List (List ℕ)) (n p : ℕ) {c : List ℕ} (is : c ≡
   pub column-more : (e : List ℕ) {v : ℕ} {fs : List (List ℕ)} → v ≡ at e j → p ≤ n → n < 512 → fs ≡ take p es ++ (e ∷ drop p es)
       → take p c ++ (v ∷ (take (n - p) (drop p c) ++ drop (n + 1) c)) ≡ column j fs
   column-more e {v} {fs} w h s split =
-      let long : 512 - length es ≡ suc (512 - length fs) = omega (arith, ap length split, length-append (take p es) (e ∷ drop p es), length-take p es, length-drop p es) in
+      let long : 512 - length es ≡ suc (512 - length fs) = omega
+      (arith, ap length split, length-append (take p es) (e ∷ drop p es), length-take p es, length-drop p es) in
       let rest : drop (n + 1) c ≡ replicate (512 - length fs) 0 =
       sym (drop-drop 1 n c) ∙ ap (drop 1) (unused-is ∙ ap (λ (m : ℕ). replicate m 0) long) in
       (λ k. below-is h k ++ (w k ∷ (above-is p h k ++ rest k)))
@@ -66,7 +67,8 @@ module _ (j : ℕ) (es : List (List ℕ)) (n p : ℕ) {c : List ℕ} (is : c ≡
   pub column-less : {fs : List (List ℕ)} → p < n → n ≤ 512 → fs ≡ take p es ++ drop (suc p) es
       → take p c ++ (take (n - (p + 1)) (drop (p + 1) c) ++ (0 ∷ drop n c)) ≡ column j fs
   column-less {fs} h s split =
-      let long : suc (512 - length es) ≡ 512 - length fs = omega (arith, ap length split, length-append (take p es) (drop (suc p) es), length-take p es, length-drop (suc p) es) in
+      let long : suc (512 - length es) ≡ 512 - length fs = omega
+      (arith, ap length split, length-append (take p es) (drop (suc p) es), length-take p es, length-drop (suc p) es) in
       let rest : 0 ∷ drop n c ≡ replicate (512 - length fs) 0 = ap (λ (l : List ℕ). 0 ∷ l) unused-is ∙ ap (λ (m : ℕ). replicate m 0) long in
       (λ k. below-is (omega arith) k ++ (above-is (p + 1) (omega arith) k ++ rest k))
       ∙ (λ k. map f (take p es) ++ (map f (drop (add-one p k) es) ++ replicate (512 - length fs) 0))

@@ -28,10 +28,12 @@ module _ (things : ℕ) (a b : List ℕ) where
   pairs-none = record { fits = refl; next = refl }
 
   pub pairs-more : {fit : Bool} {least i number least′ : ℕ} → PairsFit fit least i
-      → number ≡ first (causes false (not (pairInRange things (at a i) (at b i))) (ltb (pairKey (at a i) (at b i)) least)) → least′ ≡ pairKey (at a i) (at b i) + 1
+      → number ≡ first (causes false (not (pairInRange things (at a i) (at b i))) (ltb (pairKey (at a i) (at b i)) least))
+      → least′ ≡ pairKey (at a i) (at b i) + 1
       → PairsFit (fit && eqb number 0) least′ (i + 1)
   pairs-more {fit} {least} {i} p e f =
-      let row : first (causes false (not (pairInRange things (at a i) (at b i))) (ltb (pairKey (at a i) (at b i)) least)) ≡ pairRefusal things a b i =
+      let row : first (causes false (not (pairInRange things (at a i) (at b i))) (ltb (pairKey (at a i) (at b i)) least)) ≡ pairRefusal
+      things a b i =
       λ j. first (causes false (not (pairInRange things (at a i) (at b i))) (ltb (pairKey (at a i) (at b i)) (p .next j))) in
       record {
         fits = (λ j. p .fits j && eqb ((e ∙ row) j) 0) ∙ sym (every-more (λ x. eqb (pairRefusal things a b x) 0) i (λ x. x))
@@ -43,9 +45,11 @@ module _ (things : ℕ) (a b : List ℕ) where
   unfolding pairsLoad
   pairs-over n l = rw (lt-leb n 380 l)
 
-  pub pairs-all : (n : ℕ) {fit zeros : Bool} {least i : ℕ} → n ≤ 380 → PairsFit fit least i → i ≡ n → zeros ≡ every (zeroFrom n) (a ∷ b ∷ []) → fit && zeros ≡ pairsLoad things n a b
+  pub pairs-all : (n : ℕ) {fit zeros : Bool} {least i : ℕ} → n ≤ 380 → PairsFit fit least i → i ≡ n
+      → zeros ≡ every (zeroFrom n) (a ∷ b ∷ []) → fit && zeros ≡ pairsLoad things n a b
   unfolding pairsLoad
-  pairs-all n l p all z = rw (le-leb n 380 l) (λ j. (p .fits ∙ ap (λ (m : ℕ). every (λ x. eqb (pairRefusal things a b x) 0) (below m)) all) j && z j)
+  pairs-all n l p all z =
+      rw (le-leb n 380 l) (λ j. (p .fits ∙ ap (λ (m : ℕ). every (λ x. eqb (pairRefusal things a b x) 0) (below m)) all) j && z j)
 
 -- the code's relation, closed, has a circle exactly when the pairs have one
 pub circular-pairs : (things n : ℕ) (a b : List ℕ) (m : List (List Bool)) {res : Bool} → pairsLoad things n a b ≡ true → things ≤ 20
@@ -55,6 +59,7 @@ circular-pairs things n a b m {res} loads few rel c =
     let all : min n 380 ≡ n = omega (arith, pairs-few things n a b loads) in
     let size : min things 20 ≡ things = omega arith in
     let law = circle-circular (pairsOf n a b) {R = On m} (pairs-named things n a b loads)
-    (λ i j li lj. subst (λ (k : ℕ). On m i j ↔ Listed (pairsOf k a b) i j) all (rel i j (omega arith) (omega arith))) (pairs-proper things n a b loads) in
+    (λ i j li lj. subst (λ (k : ℕ). On m i j ↔ Listed (pairsOf k a b) i j) all (rel i j (omega arith) (omega arith)))
+    (pairs-proper things n a b loads) in
     let d = subst (λ (k : ℕ). res ≡ true ↔ Circle (Star (Below k (On m)))) size c in
     same-test res (circular (pairsOf n a b)) (λ e. law .0 (d .0 e), λ e. d .1 (law .1 e))

@@ -22,9 +22,14 @@ pub record Fits (r : Record) (k : Kind) (fit : Bool) (i : ℕ) : Type 0 where
 pub fits-none : {r : Record} {k : Kind} → Fits r k true 0
 fits-none = record { fits = refl }
 
-pub fits-more : {r : Record} {k : Kind} {fit : Bool} {i : ℕ} → Fits r k fit i → {number : ℕ} → number ≡ rowRefusal k i r (row k i r) → Fits r k (fit && eqb number 0) (i + 1)
+pub fits-more : {r : Record} {k : Kind} {fit : Bool} {i : ℕ} → Fits r k fit i → {number : ℕ} → number ≡ rowRefusal k i r (row k i r)
+    → Fits r k (fit && eqb number 0) (i + 1)
 fits-more {r} {k} {fit} {i} g e =
-    record { fits = (λ j. g .fits j && eqb (e j) 0) ∙ sym (every-more (λ x. eqb (rowRefusal k x r (row k x r)) 0) i (λ x. x)) ∙ ap (rowsLoad r k) (sym (add-one i)) }
+    record {
+      fits = (λ j. g .fits j && eqb (e j) 0)
+          ∙ sym (every-more (λ x. eqb (rowRefusal k x r (row k x r)) 0) i (λ x. x))
+          ∙ ap (rowsLoad r k) (sym (add-one i));
+    }
 
 -- the least key that may follow the line at i
 pub least-more : (r : Record) (k : Kind) (i : ℕ) {least : ℕ} → least ≡ key k (row k i r) + 1 → least ≡ minimumKey k (i + 1) r
@@ -37,7 +42,8 @@ module _ (r : Record) (k : Kind) where
   table-over l = rw (lt-leb (count k r) (room k) l)
 
   -- all lines gone through, and the unused places
-  pub table-all : {fit zeros : Bool} {i : ℕ} → count k r ≤ room k → Fits r k fit i → i ≡ count k r → zeros ≡ every (zeroFrom (count k r)) (columns k r) → fit && zeros ≡ tableLoads r k
+  pub table-all : {fit zeros : Bool} {i : ℕ} → count k r ≤ room k → Fits r k fit i → i ≡ count k r
+      → zeros ≡ every (zeroFrom (count k r)) (columns k r) → fit && zeros ≡ tableLoads r k
   unfolding tableLoads
   table-all l g all f = rw (le-leb (count k r) (room k) l) (λ j. (g .fits ∙ ap (rowsLoad r k) all) j && f j)
 

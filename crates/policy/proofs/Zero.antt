@@ -19,14 +19,18 @@ found-none = record { same = refl }
 
 pub found-more : {c : List ℕ} {n i : ℕ} {zero : Bool} → Found c n zero i → i < length c → Found c n (zero && eqb (at c i) 0) (i + 1)
 found-more {c} {n} {i} {zero} f l =
-    record { same = f .same ∙ ap (λ (d : List ℕ). zero && every (λ x. eqb x 0) d) (drop-one c i l) ∙ go zero (eqb (at c i) 0) (zeroFrom (i + 1) c) }
+    record {
+      same = f .same ∙ ap (λ (d : List ℕ). zero && every (λ x. eqb x 0) d) (drop-one c i l) ∙ go zero (eqb (at c i) 0) (zeroFrom (i + 1)
+          c);
+    }
   where
     go : (x y z : Bool) → x && (y && z) ≡ (x && y) && z
     go true y z = refl
     go false y z = refl
 
 pub found-end : {c : List ℕ} {n i : ℕ} {zero : Bool} → Found c n zero i → length c ≤ i → zero ≡ zeroFrom n c
-found-end {c} {n} {i} {zero} f l = sym (f .same ∙ ap (λ (d : List ℕ). zero && every (λ x. eqb x 0) d) (drop-of-length-le c l) ∙ and-true zero)
+found-end {c} {n} {i} {zero} f l =
+    sym (f .same ∙ ap (λ (d : List ℕ). zero && every (λ x. eqb x 0) d) (drop-of-length-le c l) ∙ and-true zero)
 
 -- ---- several columns
 
@@ -34,11 +38,13 @@ module _ (n : ℕ) where
   pub zeros-one : {z : Bool} (c : List ℕ) → z ≡ zeroFrom n c → z ≡ every (zeroFrom n) (c ∷ [])
   zeros-one c e = e ∙ sym (and-true (zeroFrom n c))
 
-  pub zeros-more : {z zs : Bool} (c : List ℕ) (cs : List (List ℕ)) → z ≡ zeroFrom n c → zs ≡ every (zeroFrom n) cs → z && zs ≡ every (zeroFrom n) (c ∷ cs)
+  pub zeros-more : {z zs : Bool} (c : List ℕ) (cs : List (List ℕ)) → z ≡ zeroFrom n c → zs ≡ every (zeroFrom n) cs
+      → z && zs ≡ every (zeroFrom n) (c ∷ cs)
   zeros-more c cs e f = λ i. e i && f i
 
   pub zeros-two : {z z₂ : Bool} (c c₂ : List ℕ) → z ≡ zeroFrom n c → z₂ ≡ zeroFrom n c₂ → z && z₂ ≡ every (zeroFrom n) (c ∷ c₂ ∷ [])
   zeros-two c c₂ e f = zeros-more c (c₂ ∷ []) e (zeros-one c₂ f)
 
-  pub zeros-three : {z z₂ z₃ : Bool} (c c₂ c₃ : List ℕ) → z ≡ zeroFrom n c → z₂ ≡ zeroFrom n c₂ → z₃ ≡ zeroFrom n c₃ → z && (z₂ && z₃) ≡ every (zeroFrom n) (c ∷ c₂ ∷ c₃ ∷ [])
+  pub zeros-three : {z z₂ z₃ : Bool} (c c₂ c₃ : List ℕ) → z ≡ zeroFrom n c → z₂ ≡ zeroFrom n c₂ → z₃ ≡ zeroFrom n c₃
+      → z && (z₂ && z₃) ≡ every (zeroFrom n) (c ∷ c₂ ∷ c₃ ∷ [])
   zeros-three c c₂ c₃ e f g = zeros-more c (c₂ ∷ c₃ ∷ []) e (zeros-two c₂ c₃ f g)

@@ -14,7 +14,8 @@ use Rattle.common.specs.BoolLaws.{and-cases, and-both}
 use Rattle.common.specs.Causes.{first}
 use Rattle.policy.specs.declared.Record.{Record}
 use Rattle.policy.specs.declared.Memo.{Memo}
-use Rattle.policy.specs.Table.{Kind, head, user, edge, formula, demarcation, hierarchy, principal, exclusion, prerequisite, method, end, kinds, count, columns, room, row, rows, column, changed}
+use Rattle.policy.specs.Table.{Kind, head, user, edge, formula, demarcation, hierarchy, principal, exclusion, prerequisite, method}
+use Rattle.policy.specs.Table.{end, kinds, count, columns, room, row, rows, column, changed}
 use Rattle.rows.specs.Op.{opOf, heightOf, formulaInRange}
 use Rattle.policy.specs.Height.{height}
 use Rattle.rows.specs.Checks.{causes}
@@ -25,9 +26,11 @@ use Rattle.policy.specs.EdgeLaws.{Rising, none, more, rising-edges}
 
 -- edges go into columns and come back
 columns-rows : {n least : ℕ} {es : List (List ℕ)} → Rising n least es → (a b c : List ℕ)
-    → table (length es) (λ i. at (map (λ e. at e 0) es ++ a) i ∷ at (map (λ e. at e 1) es ++ b) i ∷ at (map (λ e. at e 2) es ++ c) i ∷ []) ≡ es
+    → table (length es) (λ i. at (map (λ e. at e 0) es ++ a) i ∷ at (map (λ e. at e 1) es ++ b) i ∷ at (map (λ e. at e 2) es ++ c) i ∷ [])
+    ≡ es
 columns-rows none a b c = refl
-columns-rows (more {l = l} {x = x} {y = y} {es = es} k s t) a b c = table-cons (length es) _ ∙ ap (λ (fs : List (List ℕ)). (l ∷ x ∷ y ∷ []) ∷ fs) (columns-rows t a b c)
+columns-rows (more {l = l} {x = x} {y = y} {es = es} k s t) a b c =
+    table-cons (length es) _ ∙ ap (λ (fs : List (List ℕ)). (l ∷ x ∷ y ∷ []) ∷ fs) (columns-rows t a b c)
 
 -- the unused places are zero
 zero-all : (n : ℕ) → every (λ x. eqb x 0) (replicate n 0) ≡ true
@@ -36,7 +39,9 @@ zero-all (suc n) = zero-all n
 
 column-zero : (j : ℕ) (es : List (List ℕ)) → zeroFrom (length es) (column j es) ≡ true
 column-zero j es =
-    ap (λ (d : List ℕ). every (λ x. eqb x 0) d) (drop-at (map (λ e. at e j) es) (replicate (mostEdges - length es) 0) (length es) (length-map es (λ e. at e j))) ∙ zero-all (mostEdges - length es)
+    ap (λ (d : List ℕ). every (λ x. eqb x 0) d)
+    (drop-at (map (λ e. at e j) es) (replicate (mostEdges - length es) 0) (length es) (length-map es (λ e. at e j)))
+    ∙ zero-all (mostEdges - length es)
 
 module _ (r : Record) (es : List (List ℕ)) (m : Memo) where
   pub rows-changed : {n least : ℕ} → Rising n least es → rows edge (changed r es m) ≡ es
@@ -47,9 +52,12 @@ module _ (r : Record) (es : List (List ℕ)) (m : Memo) where
   unfolding height changed
   height-changed zero f = refl
   height-changed (suc n) f =
-      λ j. cond (eqb f n) (heightOf (opOf (at (r .«formula_ops») f)) (at (r .«formula_lefts») f) (at (r .«formula_rights») f) (λ g. height-changed n g j)) (height-changed n f j)
+      λ j. cond (eqb f n)
+      (heightOf (opOf (at (r .«formula_ops») f)) (at (r .«formula_lefts») f) (at (r .«formula_rights») f) (λ g. height-changed n g j))
+      (height-changed n f j)
 
-  formula-changed : (i : ℕ) → rowRefusal formula i r (row formula i r) ≡ rowRefusal formula i (changed r es m) (row formula i (changed r es m))
+  formula-changed : (i : ℕ)
+      → rowRefusal formula i r (row formula i r) ≡ rowRefusal formula i (changed r es m) (row formula i (changed r es m))
   unfolding rowRefusal rowCauses inRange changed
   formula-changed i =
       λ j. first (causes (leb mostFormulas i)
@@ -71,7 +79,9 @@ module _ (r : Record) (es : List (List ℕ)) (m : Memo) where
         → ((i : ℕ) → rowRefusal k (suc i) r (row k (suc i) r) ≡ rowRefusal k (suc i) (changed r es m) (row k (suc i) (changed r es m)))
         → tableLoads (changed r es m) k ≡ true
     unfolding tableLoads
-    kept k e f g h = sym (λ j. leb (e j) (room k) && (every (λ i. eqb (line i j) 0) (below (e j)) && every (zeroFrom (e j)) (f j))) ∙ loadable-table r loads k
+    kept k e f g h =
+        sym (λ j. leb (e j) (room k) && (every (λ i. eqb (line i j) 0) (below (e j)) && every (zeroFrom (e j)) (f j)))
+        ∙ loadable-table r loads k
       where
         line : (i : ℕ) → rowRefusal k i r (row k i r) ≡ rowRefusal k i (changed r es m) (row k i (changed r es m))
         line zero = g
@@ -94,4 +104,5 @@ module _ (r : Record) (es : List (List ℕ)) (m : Memo) where
     pub loadable-changed : loadable (changed r es m) ≡ true
     unfolding loadable changed
     loadable-changed =
-        and-both _ _ (every-all (tableLoads (changed r es m)) kinds table-changed) (and-cases (every (tableLoads r) kinds) (noCircles r) loads .1)
+        and-both _ _ (every-all (tableLoads (changed r es m)) kinds table-changed)
+        (and-cases (every (tableLoads r) kinds) (noCircles r) loads .1)

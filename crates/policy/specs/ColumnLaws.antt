@@ -25,17 +25,21 @@ zeros [] e = refl
 zeros (x ∷ c) e = let p = and-cases (eqb x 0) _ e in λ j. eqb-true x 0 (p .0) j ∷ zeros c (p .1) j
 
 -- a column of mostEdges places, zero from n on, is its first n numbers and zeros
-column-of : (n j : ℕ) (f : ℕ → List ℕ) (c : List ℕ) → ((i : ℕ) → at (f i) j ≡ at c i) → length c ≡ mostEdges → n ≤ mostEdges → zeroFrom n c ≡ true → c ≡ column j (table n f)
+column-of : (n j : ℕ) (f : ℕ → List ℕ) (c : List ℕ) → ((i : ℕ) → at (f i) j ≡ at c i) → length c ≡ mostEdges → n ≤ mostEdges
+    → zeroFrom n c ≡ true → c ≡ column j (table n f)
 column-of n j f c same size few z =
     let rest : length (drop n c) ≡ mostEdges - length (table n f) = simp (length-drop, length-table) (omega arith) in
-    let used : take n c ≡ map (λ e. at e j) (table n f) = sym (map-table (λ e. at e j) n f ∙ (λ k. table n (λ i. same i k)) ∙ table-take n c (omega arith)) in
+    let used : take n c ≡ map (λ e. at e j) (table n f) = sym
+    (map-table (λ e. at e j) n f ∙ (λ k. table n (λ i. same i k)) ∙ table-take n c (omega arith)) in
     sym (take-append-drop n c) ∙ (λ k. used k ++ (zeros (drop n c) z ∙ ap (λ (m : ℕ). replicate m 0) rest) k)
 
 module _ (r : Record) (loads : loadable r ≡ true) where
   few : r .«edge_count» ≤ mostEdges
   few = table-few r edge (loadable-table r loads edge)
 
-  zero-parts : (zeroFrom (r .«edge_count») (r .«edge_labels») ≡ true) × (zeroFrom (r .«edge_count») (r .«edge_sources») ≡ true) × (zeroFrom (r .«edge_count») (r .«edge_targets») ≡ true)
+  zero-parts :
+      (zeroFrom (r .«edge_count») (r .«edge_labels») ≡ true) × (zeroFrom (r .«edge_count») (r .«edge_sources») ≡ true)
+      × (zeroFrom (r .«edge_count») (r .«edge_targets») ≡ true)
   zero-parts =
       let p = and-cases (zeroFrom (r .«edge_count») (r .«edge_labels»)) _ (table-zero r edge (loadable-table r loads edge)) in
       let q = and-cases (zeroFrom (r .«edge_count») (r .«edge_sources»)) _ (p .1) in
@@ -64,4 +68,5 @@ own-edges r m s loads =
 pub loadable-memo : (r : Record) (m : Memo) → Sized r → loadable r ≡ true → loadable (withMemo r m) ≡ true
 loadable-memo r m s loads =
     subst (λ (x : Record). loadable x ≡ true) (own-edges r m s loads)
-    (loadable-changed r (rows edge r) m loads (loadable-rising r loads) (let n = length-table (r .«edge_count») (λ i. row edge i r) in let l = few r loads in omega arith))
+    (loadable-changed r (rows edge r) m loads (loadable-rising r loads)
+    (let n = length-table (r .«edge_count») (λ i. row edge i r) in let l = few r loads in omega arith))

@@ -24,7 +24,8 @@ use Rattle.policy.specs.Edits.{edgeIn, inserted, without}
 -- edges in range of n objects, whose keys rise and are at least `least`
 pub data Rising (n : ℕ) : ℕ → List (List ℕ) → Type 0 where
   none : {least : ℕ} → Rising n least []
-  more : {least l x y : ℕ} {es : List (List ℕ)} → least ≤ edgeKey l x y → edgeInRange n l x y ≡ true → Rising n (edgeKey l x y + 1) es → Rising n least ((l ∷ x ∷ y ∷ []) ∷ es)
+  more : {least l x y : ℕ} {es : List (List ℕ)} → least ≤ edgeKey l x y → edgeInRange n l x y ≡ true → Rising n (edgeKey l x y + 1) es
+      → Rising n least ((l ∷ x ∷ y ∷ []) ∷ es)
 
 pub rising-from : {n a b : ℕ} {es : List (List ℕ)} → Rising n a es → b ≤ a → Rising n b es
 rising-from none h = none
@@ -39,7 +40,8 @@ in-range-parts n l x y e =
     (leb-true l highestLabel (p .0), ltb-true x n (q .0), ltb-true y n (q .1))
 
 -- edges with the same key are the same
-pub key-same : (n l x y l₂ x₂ y₂ : ℕ) → n ≤ mostObjects → edgeInRange n l x y ≡ true → edgeInRange n l₂ x₂ y₂ ≡ true → edgeKey l x y ≡ edgeKey l₂ x₂ y₂ → same (l ∷ x ∷ y ∷ []) (l₂ ∷ x₂ ∷ y₂ ∷ []) ≡ true
+pub key-same : (n l x y l₂ x₂ y₂ : ℕ) → n ≤ mostObjects → edgeInRange n l x y ≡ true → edgeInRange n l₂ x₂ y₂ ≡ true
+    → edgeKey l x y ≡ edgeKey l₂ x₂ y₂ → same (l ∷ x ∷ y ∷ []) (l₂ ∷ x₂ ∷ y₂ ∷ []) ≡ true
 key-same n l x y l₂ x₂ y₂ s e f g =
     let p = in-range-parts n l x y e in
     let q = in-range-parts n l₂ x₂ y₂ f in
@@ -72,11 +74,13 @@ after-end least [] e = refl
 after-end least (f ∷ es) e = after-end (key edge f + 1) es e
 
 module _ (n l x y : ℕ) where
-  rising-end : {least : ℕ} {es : List (List ℕ)} → Rising n least es → after least es ≤ edgeKey l x y → edgeInRange n l x y ≡ true → Rising n least (es ++ ((l ∷ x ∷ y ∷ []) ∷ []))
+  rising-end : {least : ℕ} {es : List (List ℕ)} → Rising n least es → after least es ≤ edgeKey l x y → edgeInRange n l x y ≡ true
+      → Rising n least (es ++ ((l ∷ x ∷ y ∷ []) ∷ []))
   rising-end none h r = more h r none
   rising-end (more k s t) h r = more k s (rising-end t h r)
 
-  rising-parts : {least : ℕ} (es : List (List ℕ)) → Rising n least (es ++ ((l ∷ x ∷ y ∷ []) ∷ [])) → Rising n least es × (after least es ≤ edgeKey l x y) × (edgeInRange n l x y ≡ true)
+  rising-parts : {least : ℕ} (es : List (List ℕ)) → Rising n least (es ++ ((l ∷ x ∷ y ∷ []) ∷ []))
+      → Rising n least es × (after least es ≤ edgeKey l x y) × (edgeInRange n l x y ≡ true)
   rising-parts [] (more h r none) = (none, h, r)
   rising-parts (e ∷ es) (more k s t) = let p = rising-parts es t in (more k s (p .0), p .1, p .2)
 
@@ -102,7 +106,8 @@ module _ (r : Record) where
   edges-rising (suc n) e =
       let h = and-cases _ _ (sym (every-more (λ i. eqb (rowRefusal edge i r (row edge i r)) 0) n (λ i. i)) ∙ e) in
       let p = no-cause (leb mostEdges n) _ _ (h .1) in
-      rising-end (r .objects) _ _ _ (edges-rising n (h .0)) (omega (arith, after-edges n, ltb-false (key edge (row edge n r)) (minimumKey edge n r) (p .2))) (p .1)
+      rising-end (r .objects) _ _ _ (edges-rising n (h .0))
+      (omega (arith, after-edges n, ltb-false (key edge (row edge n r)) (minimumKey edge n r) (p .2))) (p .1)
 
   pub rising-edges : (n : ℕ) → n ≤ mostEdges → Rising (r .objects) 0 (edges n) → rowsLoad r edge n ≡ true
   unfolding rowRefusal rowCauses inRange
@@ -111,7 +116,8 @@ module _ (r : Record) where
       let p = rising-parts (r .objects) _ _ _ (edges n) t in
       every-more (λ i. eqb (rowRefusal edge i r (row edge i r)) 0) n (λ i. i)
       ∙ and-both _ _ (rising-edges n (omega arith) (p .0))
-      (rw (p .2, lt-leb mostEdges n (omega arith), le-ltb (key edge (row edge n r)) (minimumKey edge n r) (omega (arith, after-edges n, p .1))))
+      (rw
+      (p .2, lt-leb mostEdges n (omega arith), le-ltb (key edge (row edge n r)) (minimumKey edge n r) (omega (arith, after-edges n, p .1))))
 
   pub loadable-rising : loadable r ≡ true → Rising (r .objects) 0 (rows edge r)
   loadable-rising e = edges-rising (r .«edge_count») (table-rows r edge (loadable-table r e edge))
@@ -154,17 +160,21 @@ module _ (e : List ℕ) where
     without-inserted [] h = rw own
     without-inserted (f ∷ es) h =
         let p = or-none (same e f) _ h in
-        go (ltb (key edge e) (key edge f)) (without-none (f ∷ es) h) (rw (p .0) (ap (λ (l : List (List ℕ)). f ∷ l) (without-inserted es (p .1))))
+        go (ltb (key edge e) (key edge f)) (without-none (f ∷ es) h)
+        (rw (p .0) (ap (λ (l : List (List ℕ)). f ∷ l) (without-inserted es (p .1))))
       where
-        go : (b : Bool) → without e (f ∷ es) ≡ f ∷ es → without e (f ∷ inserted e es) ≡ f ∷ es → without e (cond b (e ∷ f ∷ es) (f ∷ inserted e es)) ≡ f ∷ es
+        go : (b : Bool) → without e (f ∷ es) ≡ f ∷ es → without e (f ∷ inserted e es) ≡ f ∷ es
+            → without e (cond b (e ∷ f ∷ es) (f ∷ inserted e es)) ≡ f ∷ es
         go true p q = rw own p
         go false p q = q
 
 module _ {n : ℕ} (l x y : ℕ) (few : n ≤ mostObjects) (fits : edgeInRange n l x y ≡ true) where
-  pub key-differs : (l₂ x₂ y₂ : ℕ) → edgeInRange n l₂ x₂ y₂ ≡ true → same (l ∷ x ∷ y ∷ []) (l₂ ∷ x₂ ∷ y₂ ∷ []) ≡ false → edgeKey l x y ≡ edgeKey l₂ x₂ y₂ → ⊥
+  pub key-differs : (l₂ x₂ y₂ : ℕ) → edgeInRange n l₂ x₂ y₂ ≡ true → same (l ∷ x ∷ y ∷ []) (l₂ ∷ x₂ ∷ y₂ ∷ []) ≡ false
+      → edgeKey l x y ≡ edgeKey l₂ x₂ y₂ → ⊥
   key-differs l₂ x₂ y₂ s d p = false≢true (sym d ∙ key-same n l x y l₂ x₂ y₂ few fits s p)
 
-  pub inserted-rising : {least : ℕ} {es : List (List ℕ)} → Rising n least es → least ≤ edgeKey l x y → edgeIn es (l ∷ x ∷ y ∷ []) ≡ false → Rising n least (inserted (l ∷ x ∷ y ∷ []) es)
+  pub inserted-rising : {least : ℕ} {es : List (List ℕ)} → Rising n least es → least ≤ edgeKey l x y → edgeIn es (l ∷ x ∷ y ∷ []) ≡ false
+      → Rising n least (inserted (l ∷ x ∷ y ∷ []) es)
   inserted-rising none h a = more h fits none
   inserted-rising {least} (more {l = l₂} {x = x₂} {y = y₂} {es = es} k s t) h a =
       let p = or-none (same (l ∷ x ∷ y ∷ []) (l₂ ∷ x₂ ∷ y₂ ∷ [])) _ a in
@@ -173,13 +183,16 @@ module _ {n : ℕ} (l x y : ℕ) (few : n ≤ mostObjects) (fits : edgeInRange n
       go : (b : Bool) → ltb (edgeKey l x y) (edgeKey l₂ x₂ y₂) ≡ b → same (l ∷ x ∷ y ∷ []) (l₂ ∷ x₂ ∷ y₂ ∷ []) ≡ false
           → (edgeKey l₂ x₂ y₂ + 1 ≤ edgeKey l x y → Rising n (edgeKey l₂ x₂ y₂ + 1) (inserted (l ∷ x ∷ y ∷ []) es))
           → Rising n least (cond b ((l ∷ x ∷ y ∷ []) ∷ (l₂ ∷ x₂ ∷ y₂ ∷ []) ∷ es) ((l₂ ∷ x₂ ∷ y₂ ∷ []) ∷ inserted (l ∷ x ∷ y ∷ []) es))
-      go true e d rest = let b : edgeKey l x y + 1 ≤ edgeKey l₂ x₂ y₂ = omega (arith, ltb-true (edgeKey l x y) (edgeKey l₂ x₂ y₂) e) in more h fits (more b s t)
+      go true e d rest =
+          let b : edgeKey l x y + 1 ≤ edgeKey l₂ x₂ y₂ = omega (arith, ltb-true (edgeKey l x y) (edgeKey l₂ x₂ y₂) e) in
+          more h fits (more b s t)
       go false e d rest = more k s (rest (omega (arith, key-differs l₂ x₂ y₂ s d, ltb-false (edgeKey l x y) (edgeKey l₂ x₂ y₂) e)))
 
 pub without-rising : (e : List ℕ) {n least : ℕ} {es : List (List ℕ)} → Rising n least es → Rising n least (without e es)
 without-rising e none = none
 without-rising e {n} {least} (more {l = l} {x = x} {y = y} {es = es} k s t) = go (same e (l ∷ x ∷ y ∷ [])) (without-rising e t)
   where
-    go : (b : Bool) → Rising n (edgeKey l x y + 1) (without e es) → Rising n least (cond (not b) ((l ∷ x ∷ y ∷ []) ∷ without e es) (without e es))
+    go : (b : Bool) → Rising n (edgeKey l x y + 1) (without e es)
+        → Rising n least (cond (not b) ((l ∷ x ∷ y ∷ []) ∷ without e es) (without e es))
     go true t = rising-from t (omega arith)
     go false t = more k s t

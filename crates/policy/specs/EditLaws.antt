@@ -16,7 +16,8 @@ use Rattle.policy.specs.Table.{edge, row, rows, emptied, changed, withMe
 use Rattle.rows.specs.Checks.{edgeInRange}
 use Rattle.policy.specs.Loadable.{loadable}
 use Rattle.policy.specs.LoadableLaws.{loadable-table, loadable-objects, table-few}
-use Rattle.policy.specs.EdgeLaws.{Rising, loadable-rising, inserted-length, inserted-in, inserted-rising, without-length, without-inserted, without-rising}
+use Rattle.policy.specs.EdgeLaws.{Rising, loadable-rising, inserted-length, inserted-in, inserted-rising, without-length}
+use Rattle.policy.specs.EdgeLaws.{without-inserted, without-rising}
 use Rattle.policy.specs.TableLaws.{Sized}
 use Rattle.policy.specs.ChangedLaws.{rows-changed, loadable-changed}
 use Rattle.policy.specs.ColumnLaws.{own-edges}
@@ -57,7 +58,8 @@ module _ (r : Record) (l x y : ℕ) where
   unfolding added
   added-when a = rw (a .loads, a .fits, a .absent, lt-leb mostEdges (r .«edge_count») (a .room))
 
-  pub removed-when : Removes → removed r l x y ≡ record { number = 0; rules = changed r (without (l ∷ x ∷ y ∷ []) (rows edge r)) (emptied 0 0) }
+  pub removed-when : Removes
+      → removed r l x y ≡ record { number = 0; rules = changed r (without (l ∷ x ∷ y ∷ []) (rows edge r)) (emptied 0 0) }
   unfolding removed
   removed-when a = rw (a .loads, a .fits, a .present)
 
@@ -99,7 +101,8 @@ module _ (r : Record) (l x y : ℕ) where
     added-loadable =
         let few = inserted-length (l ∷ x ∷ y ∷ []) (rows edge r) in
         ap loadable added-is
-        ∙ loadable-changed r now (emptied 0 0) (adds accepted .loads) now-rising (omega (arith, adds accepted .room, length-table (r .«edge_count») (λ i. row edge i r)))
+        ∙ loadable-changed r now (emptied 0 0) (adds accepted .loads) now-rising
+        (omega (arith, adds accepted .room, length-table (r .«edge_count») (λ i. row edge i r)))
 
   -- ---- removing
 
@@ -121,7 +124,14 @@ module _ (r : Record) (l x y : ℕ) where
         let loads = removes accepted .loads in
         ap loadable removed-is
         ∙ loadable-changed r left (emptied 0 0) loads left-rising
-        (omega (arith, without-length (l ∷ x ∷ y ∷ []) (rows edge r), table-few r edge (loadable-table r loads edge), length-table (r .«edge_count») (λ i. row edge i r)))
+        (omega (
+          arith,
+          without-length (l ∷ x ∷ y ∷ []) (rows edge r),
+          table-few r edge (loadable-table r loads edge),
+          length-table (r
+              .«edge_count»)
+              (λ i. row edge i r),
+        ))
 
 -- the edges of a changed record are changed over
 changed-twice : (r : Record) (es fs : List (List ℕ)) (m : Memo) → changed (changed r es m) fs m ≡ changed r fs m
@@ -134,7 +144,8 @@ objects-changed r es m = refl
 
 -- a new edge added and removed: the same rules, and an emptied memo (the columns have the lengths of the record's arrays: `Sized`)
 module _ (r : Record) (l x y : ℕ) where
-  pub added-removed : Sized r → added r l x y .number ≡ 0 → removed (added r l x y .rules) l x y ≡ record { number = 0; rules = withMemo r (emptied 0 0) }
+  pub added-removed : Sized r → added r l x y .number ≡ 0
+      → removed (added r l x y .rules) l x y ≡ record { number = 0; rules = withMemo r (emptied 0 0) }
   added-removed sized accepted =
       let s = added r l x y .rules in
       let is = added-is r l x y accepted in
@@ -147,7 +158,10 @@ module _ (r : Record) (l x y : ℕ) where
       (record {
         loads = added-loadable r l x y accepted;
         fits = ap (λ (n : ℕ). edgeInRange n l x y) objects ∙ a .fits;
-        present = ap (λ (es : List (List ℕ)). edgeIn es (l ∷ x ∷ y ∷ [])) holds ∙ inserted-in (l ∷ x ∷ y ∷ []) (same-own (l ∷ x ∷ y ∷ [])) (rows edge r);
+        present =
+            ap (λ (es : List (List ℕ)). edgeIn es (l ∷ x ∷ y ∷ [])) holds
+            ∙ inserted-in (l ∷ x ∷ y ∷ []) (same-own (l ∷ x ∷ y ∷ [])) (rows edge r);
       })
       ∙ (λ j. record { number = 0; rules = changed (is j) (back j) (emptied 0 0) })
-      ∙ ap (λ (t : Record). record { number = 0; rules = t }) (changed-twice r _ (rows edge r) (emptied 0 0) ∙ own-edges r (emptied 0 0) sized (a .loads))
+      ∙ ap (λ (t : Record). record { number = 0; rules = t })
+      (changed-twice r _ (rows edge r) (emptied 0 0) ∙ own-edges r (emptied 0 0) sized (a .loads))

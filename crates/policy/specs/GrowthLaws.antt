@@ -11,7 +11,8 @@ use Rattle.common.specs.Limits.{mostObjects}
 use Rattle.common.specs.Lists.{at}
 use Rattle.common.specs.BoolLaws.{and-cases}
 use Rattle.policy.specs.declared.Record.{Record}
-use Rattle.policy.specs.Table.{Kind, head, user, edge, formula, demarcation, hierarchy, principal, exclusion, prerequisite, method, end, code, isKind, count, blank, appended}
+use Rattle.policy.specs.Table.{Kind, head, user, edge, formula, demarcation, hierarchy, principal, exclusion, prerequisite, method}
+use Rattle.policy.specs.Table.{end, code, isKind, count, blank, appended}
 use Rattle.policy.specs.Rows.{inRange, rowCauses, rowRefusal}
 use Rattle.policy.specs.RowLaws.{passed}
 use Rattle.policy.specs.Loadable.{tableLoads}
@@ -24,7 +25,8 @@ table-empty : (k j : Kind) (r : Record) (v : List ℕ) → isKind k j ≡ false 
 unfolding tableLoads
 table-empty k j r v e z = rw (count-other k j r v e, columns-other k j r v e, z)
 
-module _ (k : Kind) (r : Record) (v : List ℕ) (low : 1 < code k) (high : code k < 0xFF) (s : Sized r) (loads : (j : Kind) → tableLoads r j ≡ true)
+module _ (k : Kind) (r : Record) (v : List ℕ) (low : 1 < code k) (high : code k < 0xFF) (s : Sized r)
+    (loads : (j : Kind) → tableLoads r j ≡ true)
     (empty : (j : Kind) → code k < code j → count j r ≡ 0) (passes : rowRefusal k (count k r) r v ≡ 0) where
   -- THE LAW for a line of a kind other than head and end, when there are no lines of later kinds yet
   pub tables-more : (j : Kind) → tableLoads (appended k r v) j ≡ true
@@ -70,7 +72,8 @@ module _ (v : List ℕ) (passes : rowRefusal head 1 blank v ≡ 0) where
   head-loads : tableLoads (appended head blank v) head ≡ true
   unfolding rowRefusal rowCauses inRange appended
   head-loads =
-      let range = not-false (eqb (at v 0) 1 && (leb 1 (at v 1) && leb (at v 1) mostObjects)) (passed false (not (eqb (at v 0) 1 && (leb 1 (at v 1) && leb (at v 1) mostObjects))) false passes .1) in
+      let range = not-false (eqb (at v 0) 1 && (leb 1 (at v 1) && leb (at v 1) mostObjects))
+      (passed false (not (eqb (at v 0) 1 && (leb 1 (at v 1) && leb (at v 1) mostObjects))) false passes .1) in
       let p = and-cases (leb 1 (at v 1)) _ (and-cases (eqb (at v 0) 1) _ range .1) in
       head-some (appended head blank v) (leb-true 1 (at v 1) (p .0)) (leb-true (at v 1) mostObjects (p .1))
 

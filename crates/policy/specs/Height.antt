@@ -10,4 +10,5 @@ use Rattle.policy.specs.declared.Record.{Record}
 unfoldable pub height : Record → ℕ → ℕ → ℕ
 height r zero f = 0
 height r (suc n) f =
-    cond (eqb f n) (heightOf (opOf (at (r .«formula_ops») f)) (at (r .«formula_lefts») f) (at (r .«formula_rights») f) (height r n)) (height r n f)
+    cond (eqb f n) (heightOf (opOf (at (r .«formula_ops») f)) (at (r .«formula_lefts») f) (at (r .«formula_rights») f) (height r n))
+    (height r n f)

@@ -51,7 +51,8 @@ height-le r zero g = omega arith
 height-le r (suc n) g = go (eqb g n) (height-le r n)
   where
     go : (x : Bool) → ((f : ℕ) → height r n f ≤ n)
-        → cond x (heightOf (opOf (at (r .«formula_ops») g)) (at (r .«formula_lefts») g) (at (r .«formula_rights») g) (height r n)) (height r n g) ≤ suc n
+        → cond x (heightOf (opOf (at (r .«formula_ops») g)) (at (r .«formula_lefts») g) (at (r .«formula_rights») g) (height r n))
+        (height r n g) ≤ suc n
     go true h = height-most (opOf (at (r .«formula_ops») g)) _ _ n (height r n) h
     go false h = omega (arith, h g)
 
@@ -63,16 +64,20 @@ module _ {r : Record} {heights : List ℕ} {i : ℕ} (h : Heights r heights i) w
   pub height-here : {x : ℕ} (op a b : ℕ) → x ≡ heightOf (opOf op) a b (at heights) → x ≡ heightOf (opOf op) a b (height r i)
   height-here op a b e = e ∙ (λ j. heightOf (opOf op) a b (λ g. h .each g j))
 
-  pub heights-more : {x : ℕ} → i < mostFormulas → x ≡ heightOf (opOf (at (r .«formula_ops») i)) (at (r .«formula_lefts») i) (at (r .«formula_rights») i) (height r i) → Heights r (set heights i x) (i + 1)
+  pub heights-more : {x : ℕ} → i < mostFormulas
+      → x ≡ heightOf (opOf (at (r .«formula_ops») i)) (at (r .«formula_lefts») i) (at (r .«formula_rights») i) (height r i)
+      → Heights r (set heights i x) (i + 1)
   unfolding height
   heights-more {x} l e =
       record { size = length-set heights i x ∙ h .size; each = λ g. go g (ℕ-discrete g i) ∙ ap (λ (n : ℕ). height r n g) (sym (add-one i)) }
     where
       go : (g : ℕ) → Dec (g ≡ i) → at (set heights i x) g
-          ≡ cond (eqb g i) (heightOf (opOf (at (r .«formula_ops») g)) (at (r .«formula_lefts») g) (at (r .«formula_rights») g) (height r i)) (height r i g)
+          ≡ cond (eqb g i) (heightOf (opOf (at (r .«formula_ops») g)) (at (r .«formula_lefts») g) (at (r .«formula_rights») g) (height r i))
+          (height r i g)
       go g (yes p) =
           rw (eq-eqb g i p) (ap (at (set heights i x)) p ∙ getD-set-same heights i x 0 (omega (arith, h .size)) ∙ e
-          ∙ (λ j. heightOf (opOf (at (r .«formula_ops») (sym p j))) (at (r .«formula_lefts») (sym p j)) (at (r .«formula_rights») (sym p j)) (height r i)))
+          ∙ (λ j. heightOf (opOf (at (r .«formula_ops») (sym p j))) (at (r .«formula_lefts») (sym p j)) (at (r .«formula_rights») (sym p j))
+          (height r i)))
       go g (no q) = rw (ne-eqb g i q) (getD-set-other heights i g x 0 q ∙ h .each g)
 
 -- ---- a record that gets a formula more
@@ -80,13 +85,16 @@ module _ {r : Record} {heights : List ℕ} {i : ℕ} (h : Heights r heights i) w
 pub heights-start : (r : Record) → count formula r ≡ 0 → Heights r (replicate mostFormulas 0) (count formula r)
 heights-start r e = subst (Heights r (replicate mostFormulas 0)) (sym e) (heights-none r)
 
-pub heights-appended : {r : Record} {heights : List ℕ} (op a b : ℕ) {x : ℕ} → Sized r → count formula r < mostFormulas → Heights r heights (count formula r)
-    → x ≡ heightOf (opOf op) a b (at heights) → Heights (appended formula r (op ∷ a ∷ b ∷ [])) (set heights (count formula r) x) (count formula r + 1)
+pub heights-appended : {r : Record} {heights : List ℕ} (op a b : ℕ) {x : ℕ} → Sized r → count formula r < mostFormulas
+    → Heights r heights (count formula r)
+    → x ≡ heightOf (opOf op) a b (at heights)
+    → Heights (appended formula r (op ∷ a ∷ b ∷ [])) (set heights (count formula r) x) (count formula r + 1)
 unfolding appended
 heights-appended {r} {heights} op a b {x} s few h e =
     let n = count formula r in
     let r′ = appended formula r (op ∷ a ∷ b ∷ []) in
-    let kept : Heights r′ heights n = record { size = h .size; each = λ g. h .each g ∙ sym (height-kept formula r (op ∷ a ∷ b ∷ []) (omega arith) n (omega arith) g) } in
+    let kept : Heights r′ heights n = record
+    { size = h .size; each = λ g. h .each g ∙ sym (height-kept formula r (op ∷ a ∷ b ∷ []) (omega arith) n (omega arith) g) } in
     let o : at (set (r .«formula_ops») n op) n ≡ op = getD-set-same (r .«formula_ops») n op 0 (omega (arith, s .long formula)) in
     let l : at (set (r .«formula_lefts») n a) n ≡ a = getD-set-same (r .«formula_lefts») n a 0 (omega (arith, s .long formula)) in
     let u : at (set (r .«formula_rights») n b) n ≡ b = getD-set-same (r .«formula_rights») n b 0 (omega (arith, s .long formula)) in

@@ -31,7 +31,8 @@ minimumPairKey zero a b = 0
 minimumPairKey (suc i) a b = pairKey (at a i) (at b i) + 1
 
 abbrev pub pairRefusal : ℕ → List ℕ → List ℕ → ℕ → ℕ
-pairRefusal things a b i = first (causes false (not (pairInRange things (at a i) (at b i))) (ltb (pairKey (at a i) (at b i)) (minimumPairKey i a b)))
+pairRefusal things a b i =
+    first (causes false (not (pairInRange things (at a i) (at b i))) (ltb (pairKey (at a i) (at b i)) (minimumPairKey i a b)))
 
 unfoldable pub pairsLoad : ℕ → ℕ → List ℕ → List ℕ → Bool
 pairsLoad things n a b = leb n mostPairs && (every (λ i. eqb (pairRefusal things a b i) 0) (below n) && every (zeroFrom n) (a ∷ b ∷ []))

@@ -16,7 +16,8 @@ use Rattle.common.specs.Causes.{first}
 use Rattle.closure.specs.Closure.{Listed, pairsOf, circular}
 use Rattle.closure.specs.ClosureFact.{listed-append}
 use Rattle.policy.specs.declared.Record.{Record}
-use Rattle.policy.specs.Table.{Kind, head, user, edge, formula, demarcation, hierarchy, principal, exclusion, prerequisite, method, end, kinds, count, columns, room, row, rows}
+use Rattle.policy.specs.Table.{Kind, head, user, edge, formula, demarcation, hierarchy, principal, exclusion, prerequisite, method}
+use Rattle.policy.specs.Table.{end, kinds, count, columns, room, row, rows}
 use Rattle.rows.specs.Checks.{causes, pairInRange, pairKey}
 use Rattle.policy.specs.Rows.{inRange, rowCauses, rowRefusal}
 use Rattle.policy.specs.Loadable.{rowsLoad, zeroFrom, minimumPairKey, pairRefusal, pairsLoad, tableLoads, loadable}
@@ -26,19 +27,24 @@ module _ (r : Record) where
   unfolding pairsLoad tableLoads rowRefusal rowCauses inRange
   hierarchy-pairs =
       λ j. leb (r .«hierarchy_count») mostPairs
-      && (every (λ i. eqb (same-row i j) 0) (below (r .«hierarchy_count»)) && every (zeroFrom (r .«hierarchy_count»)) (r .inferiors ∷ r .superiors ∷ []))
+      && (every (λ i. eqb (same-row i j) 0) (below (r .«hierarchy_count»))
+      && every (zeroFrom (r .«hierarchy_count»)) (r .inferiors ∷ r .superiors ∷ []))
     where
-      same-row : (i : ℕ) → pairRefusal (r .«demarcation_count») (r .inferiors) (r .superiors) i ≡ rowRefusal hierarchy i r (row hierarchy i r)
+      same-row : (i : ℕ)
+          → pairRefusal (r .«demarcation_count») (r .inferiors) (r .superiors) i ≡ rowRefusal hierarchy i r (row hierarchy i r)
       same-row zero = refl
       same-row (suc i) = refl
 
-  pub prerequisite-pairs : pairsLoad (r .«principal_count») (r .«prerequisite_count») (r .prerequisites) (r .dependents) ≡ tableLoads r prerequisite
+  pub prerequisite-pairs :
+      pairsLoad (r .«principal_count») (r .«prerequisite_count») (r .prerequisites) (r .dependents) ≡ tableLoads r prerequisite
   unfolding pairsLoad tableLoads rowRefusal rowCauses inRange
   prerequisite-pairs =
       λ j. leb (r .«prerequisite_count») mostPairs
-      && (every (λ i. eqb (same-row i j) 0) (below (r .«prerequisite_count»)) && every (zeroFrom (r .«prerequisite_count»)) (r .prerequisites ∷ r .dependents ∷ []))
+      && (every (λ i. eqb (same-row i j) 0) (below (r .«prerequisite_count»))
+      && every (zeroFrom (r .«prerequisite_count»)) (r .prerequisites ∷ r .dependents ∷ []))
     where
-      same-row : (i : ℕ) → pairRefusal (r .«principal_count») (r .prerequisites) (r .dependents) i ≡ rowRefusal prerequisite i r (row prerequisite i r)
+      same-row : (i : ℕ)
+          → pairRefusal (r .«principal_count») (r .prerequisites) (r .dependents) i ≡ rowRefusal prerequisite i r (row prerequisite i r)
       same-row zero = refl
       same-row (suc i) = refl
 
@@ -48,7 +54,8 @@ in-range : (x y : Bool) → eqb (first (causes false (not x) y)) 0 ≡ true → 
 in-range true y e = refl
 in-range false y e = absurd (false≢true e)
 
-pairs-in-range : (things n : ℕ) (a b : List ℕ) → every (λ i. eqb (pairRefusal things a b i) 0) (below n) ≡ true → (i j : ℕ) → Listed (pairsOf n a b) i j → pairInRange things i j ≡ true
+pairs-in-range : (things n : ℕ) (a b : List ℕ) → every (λ i. eqb (pairRefusal things a b i) 0) (below n) ≡ true → (i j : ℕ)
+    → Listed (pairsOf n a b) i j → pairInRange things i j ≡ true
 pairs-in-range things zero a b e i j l = absurd l
 pairs-in-range things (suc n) a b e i j l =
     let h = and-cases _ _ (sym (every-more (λ x. eqb (pairRefusal things a b x) 0) n (λ x. x)) ∙ e) in
@@ -84,7 +91,8 @@ abbrev pub graphLoads : Record → Bool
 graphLoads r = tableLoads r user && (tableLoads r edge && (tableLoads r formula && tableLoads r demarcation))
 
 abbrev pub groundsLoad : Record → Bool
-groundsLoad r = tableLoads r hierarchy && (tableLoads r principal && (tableLoads r exclusion && (tableLoads r prerequisite && tableLoads r method)))
+groundsLoad r =
+    tableLoads r hierarchy && (tableLoads r principal && (tableLoads r exclusion && (tableLoads r prerequisite && tableLoads r method)))
 
 abbrev pub noCircles : Record → Bool
 noCircles r = not (circular (rows hierarchy r)) && not (circular (rows prerequisite r))
@@ -169,7 +177,8 @@ module _ (r : Record) where
 pub head-range : (r : Record) → tableLoads r head ≡ true → (1 ≤ r .objects) × (r .objects ≤ mostObjects)
 unfolding tableLoads rowRefusal rowCauses inRange
 head-range r e =
-    let p = and-cases (leb 1 (r .objects)) (leb (r .objects) mostObjects) (in-range (leb 1 (r .objects) && leb (r .objects) mostObjects) false (and-cases _ true (and-cases _ true e .0) .0)) in
+    let p = and-cases (leb 1 (r .objects)) (leb (r .objects) mostObjects)
+    (in-range (leb 1 (r .objects) && leb (r .objects) mostObjects) false (and-cases _ true (and-cases _ true e .0) .0)) in
     (leb-true 1 (r .objects) (p .0), leb-true (r .objects) mostObjects (p .1))
 
 -- a table that loads has no more lines than there is room for
@@ -181,7 +190,19 @@ table-few r k e = leb-true (count k r) (room k) (and-cases (leb (count k r) (roo
 pub loadable-from : (r : Record) → ((j : Kind) → tableLoads r j ≡ true) → noCircles r ≡ true → loadable r ≡ true
 unfolding loadable
 loadable-from r loads c =
-    rw (loads head, loads user, loads edge, loads formula, loads demarcation, loads hierarchy, loads principal, loads exclusion, loads prerequisite, loads method) c
+    rw (
+      loads head,
+      loads user,
+      loads edge,
+      loads formula,
+      loads demarcation,
+      loads hierarchy,
+      loads principal,
+      loads exclusion,
+      loads
+          prerequisite,
+      loads method,
+    ) c
 
 -- each of its lines is one that loading takes, and its unused places are zero
 pub table-rows : (r : Record) (k : Kind) → tableLoads r k ≡ true → rowsLoad r k (count k r) ≡ true

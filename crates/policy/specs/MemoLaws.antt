@@ -11,7 +11,8 @@ use Rattle.rows.specs.Op.{opOf, heightOf, formulaInRange}
 use Rattle.rows.specs.Checks.{causes}
 use Rattle.policy.specs.declared.Record.{Record}
 use Rattle.policy.specs.declared.Memo.{Memo}
-use Rattle.policy.specs.Table.{Kind, head, user, edge, formula, demarcation, hierarchy, principal, exclusion, prerequisite, method, end}
+use Rattle.policy.specs.Table.{Kind, head, user, edge, formula, demarcation, hierarchy, principal, exclusion, prerequisite, method}
+use Rattle.policy.specs.Table.{end}
 use Rattle.policy.specs.Table.{kinds, count, columns, room, row, rows, withMemo}
 use Rattle.policy.specs.Height.{height}
 use Rattle.policy.specs.Rows.{inRange, rowCauses, rowRefusal}

@@ -16,7 +16,8 @@ use Rattle.common.specs.Causes.{first}
 use Rattle.common.specs.Lists.{at}
 use Rattle.common.specs.ListLaws.{every-more}
 use Rattle.policy.specs.declared.Record.{Record}
-use Rattle.policy.specs.Table.{Kind, head, user, edge, formula, demarcation, hierarchy, principal, exclusion, prerequisite, method, end, code, count, room, row}
+use Rattle.policy.specs.Table.{Kind, head, user, edge, formula, demarcation, hierarchy, principal, exclusion, prerequisite, method}
+use Rattle.policy.specs.Table.{end, code, count, room, row}
 use Rattle.rows.specs.Checks.{causes, pairInRange, pairKey}
 use Rattle.policy.specs.Rows.{inRange, minimumKey, rowCauses, rowRefusal}
 use Rattle.policy.specs.Loadable.{rowsLoad, tableLoads}
@@ -36,7 +37,9 @@ module _ {least n : ℕ} (u : UserRoom least n) (objects o : ℕ) (e : first (ca
   user-order = let l = ltb-false o least (passed false (not (ltb o objects)) (ltb o least) e .2) in let m = u .most in omega arith
 
   pub user-room : objects ≤ mostObjects → n < mostUsers
-  user-room h = let l = ltb-true o objects (not-false (ltb o objects) (passed false (not (ltb o objects)) (ltb o least) e .1)) in let m = user-order in omega arith
+  user-room h =
+      let l = ltb-true o objects (not-false (ltb o objects) (passed false (not (ltb o objects)) (ltb o least) e .1)) in
+      let m = user-order in omega arith
 
   pub user-more : {m after : ℕ} → after ≡ o + 1 → m ≡ n + 1 → UserRoom after m
   user-more g f = let m = user-order in record { most = omega arith }
@@ -54,7 +57,8 @@ other-side : (a b : ℕ) → a ≢ b → Dec (a < b) → (a < b) ⊎ (b < a)
 other-side a b h (yes l) = inl l
 other-side a b h (no k) = inr (omega arith)
 
-module _ {least n : ℕ} (u : PairRoom least n) (things a b : ℕ) (few : things ≤ mostPrincipals) (e : first (causes false (not (pairInRange things a b)) (ltb (pairKey a b) least)) ≡ 0) where
+module _ {least n : ℕ} (u : PairRoom least n) (things a b : ℕ) (few : things ≤ mostPrincipals)
+    (e : first (causes false (not (pairInRange things a b)) (ltb (pairKey a b) least)) ≡ 0) where
   in-range : pairInRange things a b ≡ true
   in-range = not-false (pairInRange things a b) (passed false (not (pairInRange things a b)) (ltb (pairKey a b) least) e .1)
 
@@ -65,13 +69,16 @@ module _ {least n : ℕ} (u : PairRoom least n) (things a b : ℕ) (few : things
   high = let l = ltb-true b things (and-cases (ltb b things) _ (and-cases (ltb a things) _ in-range .1) .0) in omega arith
 
   sides : (a < b) ⊎ (b < a)
-  sides = other-side a b (eqb-false a b (not-true (eqb a b) (and-cases (ltb b things) _ (and-cases (ltb a things) _ in-range .1) .1))) (decLt a b)
+  sides =
+      other-side a b (eqb-false a b (not-true (eqb a b) (and-cases (ltb b things) _ (and-cases (ltb a things) _ in-range .1) .1)))
+      (decLt a b)
 
   order : least ≤ pairKey a b
   order = ltb-false (pairKey a b) least (passed false (not (pairInRange things a b)) (ltb (pairKey a b) least) e .2)
 
   pub pair-room : n < mostPairs
-  pair-room = let h = low in let k = high in ⊎-elim (λ l. omega (arith, u .up a b k l order)) (λ l. omega (arith, u .down a b h l order)) sides
+  pair-room =
+      let h = low in let k = high in ⊎-elim (λ l. omega (arith, u .up a b k l order)) (λ l. omega (arith, u .down a b h l order)) sides
 
   pub pair-more : {m after : ℕ} → after ≡ pairKey a b + 1 → m ≡ n + 1 → PairRoom after m
   pair-more g f =
@@ -105,15 +112,19 @@ exclusion-none n e = record { up = λ a b l h k. omega arith }
 module _ {least n : ℕ} (u : ExclusionRoom least n) (things a b : ℕ) (few : things ≤ mostPrincipals)
     (e : first (causes false (not (ltb a b && ltb b things)) (ltb (pairKey a b) least)) ≡ 0) where
   rises : a < b
-  rises = ltb-true a b (and-cases (ltb a b) _ (not-false (ltb a b && ltb b things) (passed false (not (ltb a b && ltb b things)) (ltb (pairKey a b) least) e .1)) .0)
+  rises =
+      ltb-true a b (and-cases (ltb a b) _
+      (not-false (ltb a b && ltb b things) (passed false (not (ltb a b && ltb b things)) (ltb (pairKey a b) least) e .1)) .0)
 
   below : b < mostPrincipals
   below =
-      let l = ltb-true b things (and-cases (ltb a b) _ (not-false (ltb a b && ltb b things) (passed false (not (ltb a b && ltb b things)) (ltb (pairKey a b) least) e .1)) .1) in
+      let l = ltb-true b things (and-cases (ltb a b) _
+      (not-false (ltb a b && ltb b things) (passed false (not (ltb a b && ltb b things)) (ltb (pairKey a b) least) e .1)) .1) in
       omega arith
 
   follows : n + (a + 1) ≤ before a + b
-  follows = u .up a b below rises (ltb-false (pairKey a b) least (passed false (not (ltb a b && ltb b things)) (ltb (pairKey a b) least) e .2))
+  follows =
+      u .up a b below rises (ltb-false (pairKey a b) least (passed false (not (ltb a b && ltb b things)) (ltb (pairKey a b) least) e .2))
 
   -- the pairs with a for their lower come before those with a higher one
   next-lower : (x : ℕ) → a < x → n + 1 ≤ before x
@@ -148,7 +159,8 @@ row-passes k r n e =
 user-rows : (r : Record) (n : ℕ) → rowsLoad r user n ≡ true → UserRoom (minimumKey user n r) n
 unfolding rowRefusal rowCauses inRange
 user-rows r zero e = user-none 0 refl
-user-rows r (suc n) e = let p = row-passes user r n e in user-more (user-rows r n (p .0)) (r .objects) (at (r .«user_objects») n) (p .1) refl (sym (add-one n))
+user-rows r (suc n) e =
+    let p = row-passes user r n e in user-more (user-rows r n (p .0)) (r .objects) (at (r .«user_objects») n) (p .1) refl (sym (add-one n))
 
 module _ (r : Record) where
   hierarchy-rows : r .«demarcation_count» ≤ mostPrincipals → (n : ℕ) → rowsLoad r hierarchy n ≡ true → PairRoom (minimumKey hierarchy n r) n
@@ -156,39 +168,49 @@ module _ (r : Record) where
   hierarchy-rows few zero e = pair-none 0 refl
   hierarchy-rows few (suc n) e =
       let p = row-passes hierarchy r n e in
-      pair-more (hierarchy-rows few n (p .0)) (r .«demarcation_count») (at (r .inferiors) n) (at (r .superiors) n) few (p .1) refl (sym (add-one n))
+      pair-more (hierarchy-rows few n (p .0)) (r .«demarcation_count») (at (r .inferiors) n) (at (r .superiors) n) few (p .1) refl
+      (sym (add-one n))
 
-  prerequisite-rows : r .«principal_count» ≤ mostPrincipals → (n : ℕ) → rowsLoad r prerequisite n ≡ true → PairRoom (minimumKey prerequisite n r) n
+  prerequisite-rows : r .«principal_count» ≤ mostPrincipals → (n : ℕ) → rowsLoad r prerequisite n ≡ true
+      → PairRoom (minimumKey prerequisite n r) n
   unfolding rowRefusal rowCauses inRange
   prerequisite-rows few zero e = pair-none 0 refl
   prerequisite-rows few (suc n) e =
       let p = row-passes prerequisite r n e in
-      pair-more (prerequisite-rows few n (p .0)) (r .«principal_count») (at (r .prerequisites) n) (at (r .dependents) n) few (p .1) refl (sym (add-one n))
+      pair-more (prerequisite-rows few n (p .0)) (r .«principal_count») (at (r .prerequisites) n) (at (r .dependents) n) few (p .1) refl
+      (sym (add-one n))
 
-  exclusion-rows : r .«principal_count» ≤ mostPrincipals → (n : ℕ) → rowsLoad r exclusion n ≡ true → ExclusionRoom (minimumKey exclusion n r) n
+  exclusion-rows : r .«principal_count» ≤ mostPrincipals → (n : ℕ) → rowsLoad r exclusion n ≡ true
+      → ExclusionRoom (minimumKey exclusion n r) n
   unfolding rowRefusal rowCauses inRange
   exclusion-rows few zero e = exclusion-none 0 refl
   exclusion-rows few (suc n) e =
       let p = row-passes exclusion r n e in
-      exclusion-more (exclusion-rows few n (p .0)) (r .«principal_count») (at (r .«exclusion_lows») n) (at (r .«exclusion_highs») n) few (p .1) refl (sym (add-one n))
+      exclusion-more (exclusion-rows few n (p .0)) (r .«principal_count») (at (r .«exclusion_lows») n) (at (r .«exclusion_highs») n) few
+      (p .1) refl (sym (add-one n))
 
 -- THE LAW: where the tables load, a line that passes its check has room
-pub room-left : (k : Kind) (r : Record) (v : List ℕ) → 1 < code k → code k < 0xFF → ((j : Kind) → tableLoads r j ≡ true) → rowRefusal k (count k r) r v ≡ 0 → count k r < room k
+pub room-left : (k : Kind) (r : Record) (v : List ℕ) → 1 < code k → code k < 0xFF → ((j : Kind) → tableLoads r j ≡ true)
+    → rowRefusal k (count k r) r v ≡ 0 → count k r < room k
 unfolding rowRefusal rowCauses inRange
 room-left head r v l h loads e = absurd (omega arith)
-room-left user r v l h loads e = user-room (user-rows r (r .«user_count») (table-rows r user (loads user))) (r .objects) (at v 0) e (head-range r (loads head) .1)
+room-left user r v l h loads e =
+    user-room (user-rows r (r .«user_count») (table-rows r user (loads user))) (r .objects) (at v 0) e (head-range r (loads head) .1)
 room-left edge r v l h loads e = row-limit edge (r .«edge_count») r v refl e
 room-left formula r v l h loads e = row-limit formula (r .«formula_count») r v refl e
 room-left demarcation r v l h loads e = row-limit demarcation (r .«demarcation_count») r v refl e
 room-left hierarchy r v l h loads e =
     let few = table-few r demarcation (loads demarcation) in
-    pair-room (hierarchy-rows r few (r .«hierarchy_count») (table-rows r hierarchy (loads hierarchy))) (r .«demarcation_count») (at v 0) (at v 1) few e
+    pair-room (hierarchy-rows r few (r .«hierarchy_count») (table-rows r hierarchy (loads hierarchy))) (r .«demarcation_count») (at v 0)
+    (at v 1) few e
 room-left principal r v l h loads e = row-limit principal (r .«principal_count») r v refl e
 room-left exclusion r v l h loads e =
     let few = table-few r principal (loads principal) in
-    exclusion-room (exclusion-rows r few (r .«exclusion_count») (table-rows r exclusion (loads exclusion))) (r .«principal_count») (at v 0) (at v 1) few e
+    exclusion-room (exclusion-rows r few (r .«exclusion_count») (table-rows r exclusion (loads exclusion))) (r .«principal_count») (at v 0)
+    (at v 1) few e
 room-left prerequisite r v l h loads e =
     let few = table-few r principal (loads principal) in
-    pair-room (prerequisite-rows r few (r .«prerequisite_count») (table-rows r prerequisite (loads prerequisite))) (r .«principal_count») (at v 0) (at v 1) few e
+    pair-room (prerequisite-rows r few (r .«prerequisite_count») (table-rows r prerequisite (loads prerequisite))) (r .«principal_count»)
+    (at v 0) (at v 1) few e
 room-left method r v l h loads e = row-limit method (r .«method_count») r v refl e
 room-left end r v l h loads e = absurd (omega arith)

@@ -16,12 +16,14 @@ use Rattle.rows.specs.Checks.{edgeInRange, pairInRange, edgeKey, pairKey, cause
 use Rattle.policy.specs.Rows.{limited, inRange, rising, key, minimumKey, rowCauses, rowRefusal}
 
 module _ (r : Record) (i : ℕ) where
-  pub user-values : (o w : ℕ) {least : ℕ} → least ≡ minimumKey user i r → first (causes false (not (ltb o (r .objects))) (ltb o least)) ≡ rowRefusal user i r (o ∷ w ∷ [])
+  pub user-values : (o w : ℕ) {least : ℕ} → least ≡ minimumKey user i r
+      → first (causes false (not (ltb o (r .objects))) (ltb o least)) ≡ rowRefusal user i r (o ∷ w ∷ [])
   unfolding rowRefusal rowCauses inRange
   user-values o w e = λ j. first (causes false (not (ltb o (r .objects))) (ltb o (e j)))
 
   pub edge-values : (l x y : ℕ) {least : ℕ} → least ≡ minimumKey edge i r
-      → first (causes (leb mostEdges i) (not (edgeInRange (r .objects) l x y)) (ltb (edgeKey l x y) least)) ≡ rowRefusal edge i r (l ∷ x ∷ y ∷ [])
+      → first (causes (leb mostEdges i) (not (edgeInRange (r .objects) l x y)) (ltb (edgeKey l x y) least))
+      ≡ rowRefusal edge i r (l ∷ x ∷ y ∷ [])
   unfolding rowRefusal rowCauses inRange
   edge-values l x y e = λ j. first (causes (leb mostEdges i) (not (edgeInRange (r .objects) l x y)) (ltb (edgeKey l x y) (e j)))
 
@@ -35,21 +37,26 @@ module _ (r : Record) (i : ℕ) where
   demarcation-values w = refl
 
   pub hierarchy-values : (a b : ℕ) {least : ℕ} → least ≡ minimumKey hierarchy i r
-      → first (causes false (not (pairInRange (r .«demarcation_count») a b)) (ltb (pairKey a b) least)) ≡ rowRefusal hierarchy i r (a ∷ b ∷ [])
+      → first (causes false (not (pairInRange (r .«demarcation_count») a b)) (ltb (pairKey a b) least))
+      ≡ rowRefusal hierarchy i r (a ∷ b ∷ [])
   unfolding rowRefusal rowCauses inRange
   hierarchy-values a b e = λ j. first (causes false (not (pairInRange (r .«demarcation_count») a b)) (ltb (pairKey a b) (e j)))
 
-  pub principal-values : (f d : ℕ) → first (causes (leb mostPrincipals i) (not (ltb f (r .«formula_count») && ltb d (r .«demarcation_count»))) false) ≡ rowRefusal principal i r (f ∷ d ∷ [])
+  pub principal-values : (f d : ℕ)
+      → first (causes (leb mostPrincipals i) (not (ltb f (r .«formula_count») && ltb d (r .«demarcation_count»))) false)
+      ≡ rowRefusal principal i r (f ∷ d ∷ [])
   unfolding rowRefusal rowCauses inRange
   principal-values f d = refl
 
   pub exclusion-values : (p q : ℕ) {least : ℕ} → least ≡ minimumKey exclusion i r
-      → first (causes false (not (ltb p q && ltb q (r .«principal_count»))) (ltb (pairKey p q) least)) ≡ rowRefusal exclusion i r (p ∷ q ∷ [])
+      → first (causes false (not (ltb p q && ltb q (r .«principal_count»))) (ltb (pairKey p q) least))
+      ≡ rowRefusal exclusion i r (p ∷ q ∷ [])
   unfolding rowRefusal rowCauses inRange
   exclusion-values p q e = λ j. first (causes false (not (ltb p q && ltb q (r .«principal_count»))) (ltb (pairKey p q) (e j)))
 
   pub prerequisite-values : (p q : ℕ) {least : ℕ} → least ≡ minimumKey prerequisite i r
-      → first (causes false (not (pairInRange (r .«principal_count») p q)) (ltb (pairKey p q) least)) ≡ rowRefusal prerequisite i r (p ∷ q ∷ [])
+      → first (causes false (not (pairInRange (r .«principal_count») p q)) (ltb (pairKey p q) least))
+      ≡ rowRefusal prerequisite i r (p ∷ q ∷ [])
   unfolding rowRefusal rowCauses inRange
   prerequisite-values p q e = λ j. first (causes false (not (pairInRange (r .«principal_count») p q)) (ltb (pairKey p q) (e j)))
 
@@ -69,4 +76,5 @@ passed false false false e = (refl, refl, refl)
 pub row-limit : (k : Kind) (i : ℕ) (r : Record) (v : List ℕ) → limited k ≡ true → rowRefusal k i r v ≡ 0 → i < room k
 unfolding rowRefusal rowCauses
 row-limit k i r v l e =
-    leb-false (room k) i (sym (ap (λ (b : Bool). b && leb (room k) i) l) ∙ passed (limited k && leb (room k) i) (not (inRange k i r v)) (rising k && ltb (key k v) (minimumKey k i r)) e .0)
+    leb-false (room k) i (sym (ap (λ (b : Bool). b && leb (room k) i) l)
+    ∙ passed (limited k && leb (room k) i) (not (inRange k i r v)) (rising k && ltb (key k v) (minimumKey k i r)) e .0)

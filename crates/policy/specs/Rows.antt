@@ -9,7 +9,8 @@ use Rattle.common.specs.Limits.{mostObjects}
 use Rattle.common.specs.Lists.{at}
 use Rattle.common.specs.Causes.{Cause, first}
 use Rattle.policy.specs.declared.Record.{Record}
-use Rattle.policy.specs.Table.{Kind, head, user, edge, formula, demarcation, hierarchy, principal, exclusion, prerequisite, method, end, room, row}
+use Rattle.policy.specs.Table.{Kind, head, user, edge, formula, demarcation, hierarchy, principal, exclusion, prerequisite, method}
+use Rattle.policy.specs.Table.{end, room, row}
 use Rattle.rows.specs.Op.{opOf, heightOf, formulaInRange}
 use Rattle.rows.specs.Checks.{edgeInRange, pairInRange, edgeKey, pairKey, causes}
 use Rattle.policy.specs.Height.{height}

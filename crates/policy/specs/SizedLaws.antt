@@ -8,7 +8,8 @@ use Rattle.common.specs.Limits.{mostEdges}
 use Rattle.common.specs.Lists.{at}
 use Rattle.policy.specs.declared.Record.{Record}
 use Rattle.policy.specs.declared.Memo.{Memo}
-use Rattle.policy.specs.Table.{user, edge, formula, demarcation, hierarchy, principal, exclusion, prerequisite, method, column, changed}
+use Rattle.policy.specs.Table.{user, edge, formula, demarcation, hierarchy, principal, exclusion, prerequisite, method, column}
+use Rattle.policy.specs.Table.{changed}
 use Rattle.policy.specs.Table.{withMemo}
 use Rattle.policy.specs.TableLaws.{Sized, sized}
 

@@ -4,7 +4,8 @@ use mathlib.Core.Bool.{Bool, false, cond}
 use mathlib.Core.List.{List, [], _∷_, _++_, map}
 use lib.ListN.{length, set, replicate}
 use lib.Dec.{eqb}
-use Rattle.common.specs.Limits.{mostUsers, mostEdges, mostFormulas, mostDemarcations, mostPrincipals, mostMethods, mostPairs, mostExclusions}
+use Rattle.common.specs.Limits.{mostUsers, mostEdges, mostFormulas, mostDemarcations, mostPrincipals, mostMethods, mostPairs}
+use Rattle.common.specs.Limits.{mostExclusions}
 use Rattle.common.specs.Lists.{at, table}
 use Rattle.policy.specs.declared.Record.{Record}
 use Rattle.policy.specs.declared.Memo.{Memo}

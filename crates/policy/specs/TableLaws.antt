@@ -16,7 +16,8 @@ use Rattle.common.specs.ListLaws.{drop-one, every-more}
 use Rattle.common.specs.BoolLaws.{and-cases, and-both}
 use Rattle.common.specs.Causes.{first}
 use Rattle.policy.specs.declared.Record.{Record}
-use Rattle.policy.specs.Table.{Kind, head, user, edge, formula, demarcation, hierarchy, principal, exclusion, prerequisite, method, end, code, kindOf, isKind, count, columns, room, row, blank, appended}
+use Rattle.policy.specs.Table.{Kind, head, user, edge, formula, demarcation, hierarchy, principal, exclusion, prerequisite, method}
+use Rattle.policy.specs.Table.{end, code, kindOf, isKind, count, columns, room, row, blank, appended}
 use Rattle.rows.specs.Op.{opOf, heightOf, formulaInRange}
 use Rattle.policy.specs.Height.{height}
 use Rattle.rows.specs.Checks.{causes}
@@ -220,7 +221,8 @@ module _ (k : Kind) (r : Record) (v : List ℕ) (body : code head < code k) wher
   range-kept head h i l w = refl
   range-kept user h i l w = rw (objects-kept k r v (other-above k head body))
   range-kept edge h i l w = rw (objects-kept k r v (other-above k head body))
-  range-kept formula h i l w = λ t. formulaInRange i (at w 0) (at w 1) (at w 2) (heightOf (opOf (at w 0)) (at w 1) (at w 2) (λ g. height-kept i l g t))
+  range-kept formula h i l w =
+      λ t. formulaInRange i (at w 0) (at w 1) (at w 2) (heightOf (opOf (at w 0)) (at w 1) (at w 2) (λ g. height-kept i l g t))
   range-kept demarcation h i l w = refl
   range-kept hierarchy h i l w = rw (counted demarcation (omega arith))
   range-kept principal h i l w = rw (counted formula (omega arith), counted demarcation (omega arith))
@@ -229,13 +231,15 @@ module _ (k : Kind) (r : Record) (v : List ℕ) (body : code head < code k) wher
   range-kept method h i l w = refl
   range-kept end h i l w = refl
 
-  refusal-kept : (j : Kind) → code j ≤ code k → (i : ℕ) → i ≤ count j r → (w : List ℕ) → rowRefusal j i (appended k r v) w ≡ rowRefusal j i r w
+  refusal-kept : (j : Kind) → code j ≤ code k → (i : ℕ) → i ≤ count j r → (w : List ℕ)
+      → rowRefusal j i (appended k r v) w ≡ rowRefusal j i r w
   unfolding rowRefusal rowCauses
   refusal-kept j h i l w =
       λ t. first (causes (limited j && leb (room j) i) (not (range-kept j h i l w t)) (rising j && ltb (key j w) (least-kept j i l t)))
 
   -- so the lines load as before
-  line-kept : (j : Kind) → code j ≤ code k → (i : ℕ) → i < count j r → rowRefusal j i (appended k r v) (row j i (appended k r v)) ≡ rowRefusal j i r (row j i r)
+  line-kept : (j : Kind) → code j ≤ code k → (i : ℕ) → i < count j r
+      → rowRefusal j i (appended k r v) (row j i (appended k r v)) ≡ rowRefusal j i r (row j i r)
   line-kept j h i l = refusal-kept j h i (omega arith) (row j i (appended k r v)) ∙ ap (rowRefusal j i r) (row-kept j i l)
 
   rows-kept : (j : Kind) → code j ≤ code k → (n : ℕ) → n ≤ count j r → rowsLoad (appended k r v) j n ≡ rowsLoad r j n
@@ -264,7 +268,12 @@ pub table-kept : (k j : Kind) (r : Record) (v : List ℕ) → code j < code k �
 unfolding tableLoads
 table-kept k j r v l =
     let o = other-above k j l in
-    rw (count-other k j r v o, rows-kept k r v (omega (arith, code-least j)) j (omega arith) (count j r) (omega arith), columns-other k j r v o)
+    rw (
+      count-other k j r v o,
+      rows-kept k r v (omega (arith, code-least j)) j (omega arith) (count j r) (omega arith),
+      columns-other k j r v
+          o,
+    )
 
 -- ---- the new line
 
@@ -278,11 +287,13 @@ module _ (n m : ℕ) (l : n < m) (v : List ℕ) where
   row-written [] i s = refl
   row-written (c ∷ cs) i s = λ t. getD-set-same c n (at v i) 0 (omega arith) t ∷ row-written cs (suc i) (s .1) t
 
-  zeros-written : (cs : List (List ℕ)) (i : ℕ) → Long m cs → every (zeroFrom n) cs ≡ true → every (zeroFrom (n + 1)) (written cs n v i) ≡ true
+  zeros-written : (cs : List (List ℕ)) (i : ℕ) → Long m cs → every (zeroFrom n) cs ≡ true
+      → every (zeroFrom (n + 1)) (written cs n v i) ≡ true
   zeros-written [] i s z = refl
   zeros-written (c ∷ cs) i s z =
       let h = and-cases (zeroFrom n c) _ z in
-      and-both (zeroFrom (n + 1) (set c n (at v i))) _ (put-zeros c n (at v i) (omega arith) (h .0)) (zeros-written cs (suc i) (s .1) (h .1))
+      and-both (zeroFrom (n + 1) (set c n (at v i))) _ (put-zeros c n (at v i) (omega arith) (h .0))
+      (zeros-written cs (suc i) (s .1) (h .1))
 
 -- the check reads no more of v
 refusal-values : (k : Kind) (n : ℕ) (r : Record) (v : List ℕ) → rowRefusal k n r (values (columns k r) v 0) ≡ rowRefusal k n r v
@@ -299,29 +310,30 @@ refusal-values prerequisite n r v = refl
 refusal-values method n r v = refl
 refusal-values end n r v = refl
 
-module _ (k : Kind) (r : Record) (v : List ℕ) (l : code head < code k) (h : code k < code end) (s : Sized r) (few : count k r < room k) where
-  -- the line at the count is v, and the check at its place is v's
-  pub new-row : row k (count k r) (appended k r v) ≡ values (columns k r) v 0
-  new-row = ap (map (λ c. at c (count k r))) (columns-same k r v l h) ∙ row-written (count k r) (room k) few v (columns k r) 0 (s .long k)
+module _ (k : Kind) (r : Record) (v : List ℕ) (l : code head < code k) (h : code k < code end) (s : Sized r) (few : count k r < room k)
+  where
+    -- the line at the count is v, and the check at its place is v's
+    pub new-row : row k (count k r) (appended k r v) ≡ values (columns k r) v 0
+    new-row = ap (map (λ c. at c (count k r))) (columns-same k r v l h) ∙ row-written (count k r) (room k) few v (columns k r) 0 (s .long k)
 
-  new-refusal : rowRefusal k (count k r) (appended k r v) (row k (count k r) (appended k r v)) ≡ rowRefusal k (count k r) r v
-  new-refusal =
-      refusal-kept k r v l k (omega arith) (count k r) (omega arith) (row k (count k r) (appended k r v))
-      ∙ ap (rowRefusal k (count k r) r) new-row ∙ refusal-values k (count k r) r v
+    new-refusal : rowRefusal k (count k r) (appended k r v) (row k (count k r) (appended k r v)) ≡ rowRefusal k (count k r) r v
+    new-refusal =
+        refusal-kept k r v l k (omega arith) (count k r) (omega arith) (row k (count k r) (appended k r v))
+        ∙ ap (rowRefusal k (count k r) r) new-row ∙ refusal-values k (count k r) r v
 
-  rows-more : rowsLoad (appended k r v) k (count k r + 1) ≡ (rowsLoad r k (count k r) && eqb (rowRefusal k (count k r) r v) 0)
-  rows-more =
-      ap (rowsLoad (appended k r v) k) (add-one (count k r))
-      ∙ every-more (λ i. eqb (rowRefusal k i (appended k r v) (row k i (appended k r v))) 0) (count k r) (λ i. i)
-      ∙ (λ t. rows-kept k r v l k (omega arith) (count k r) (omega arith) t && eqb (new-refusal t) 0)
+    rows-more : rowsLoad (appended k r v) k (count k r + 1) ≡ (rowsLoad r k (count k r) && eqb (rowRefusal k (count k r) r v) 0)
+    rows-more =
+        ap (rowsLoad (appended k r v) k) (add-one (count k r))
+        ∙ every-more (λ i. eqb (rowRefusal k i (appended k r v) (row k i (appended k r v))) 0) (count k r) (λ i. i)
+        ∙ (λ t. rows-kept k r v l k (omega arith) (count k r) (omega arith) t && eqb (new-refusal t) 0)
 
-  -- kind k's own table still loads, if the line passes the check at its place
-  pub table-more : tableLoads r k ≡ true → rowRefusal k (count k r) r v ≡ 0 → tableLoads (appended k r v) k ≡ true
-  unfolding tableLoads
-  table-more loads passed =
-      let p = and-cases (rowsLoad r k (count k r)) _ (and-cases (leb (count k r) (room k)) _ loads .1) in
-      rw (count-same k r v l h, le-leb (count k r + 1) (room k) (omega arith), rows-more, p .0, passed, columns-same k r v l h)
-      (zeros-written (count k r) (room k) few v (columns k r) 0 (s .long k) (p .1))
+    -- kind k's own table still loads, if the line passes the check at its place
+    pub table-more : tableLoads r k ≡ true → rowRefusal k (count k r) r v ≡ 0 → tableLoads (appended k r v) k ≡ true
+    unfolding tableLoads
+    table-more loads passed =
+        let p = and-cases (rowsLoad r k (count k r)) _ (and-cases (leb (count k r) (room k)) _ loads .1) in
+        rw (count-same k r v l h, le-leb (count k r + 1) (room k) (omega arith), rows-more, p .0, passed, columns-same k r v l h)
+        (zeros-written (count k r) (room k) few v (columns k r) 0 (s .long k) (p .1))
 
 -- a key is read off the line's own numbers
 key-values : (k : Kind) (r : Record) (v : List ℕ) → key k (values (columns k r) v 0) ≡ key k v

@@ -235,7 +235,8 @@ fn methods_load(rules: Record) -> bool
 
 // Kinds 02 to 05.
 fn graph_loads(rules: Record) -> bool
-    ensures { λ r. ⌜ r ≡ (tableLoads rules user && (tableLoads rules edge && (tableLoads rules formula && tableLoads rules demarcation))) ⌝ }
+    ensures { λ r. ⌜ r
+        ≡ (tableLoads rules user && (tableLoads rules edge && (tableLoads rules formula && tableLoads rules demarcation))) ⌝ }
 {
     let users = users_load(rules);
     let edges = edges_load(rules);

@@ -6,7 +6,8 @@ use mathlib.Core.List.{List}
 use lib.ListN.{set}
 use Rattle.common.specs.Lists.{at}
 use Rattle.policy.specs.declared.Record.{Record}
-use Rattle.policy.specs.Table.{Kind, head, user, edge, formula, demarcation, hierarchy, principal, exclusion, prerequisite, method, end, isKind, count, appended}
+use Rattle.policy.specs.Table.{Kind, head, user, edge, formula, demarcation, hierarchy, principal, exclusion, prerequisite, method, end}
+use Rattle.policy.specs.Table.{isKind, count, appended}
 
 abbrev more : Kind → Kind → ℕ → Record → ℕ
 more k j i r = cond (isKind k j) (i + 1) (count j r)

@@ -32,13 +32,15 @@ fieldsAt t (w ∷ ws) k = numberAt t k w ∷ fieldsAt t ws (k + w)
 
 pub one-octet : (t : List ℕ) (k : ℕ) → octetAt t k ≡ numberAt t k 1
 unfolding numberAt
-one-octet t k = let e : k ≡ k + 0 = omega arith in ap (octetAt t) e ∙ (let z : octetAt t (k + 0) ≡ 0 * 256 + octetAt t (k + 0) = omega arith in z)
+one-octet t k =
+    let e : k ≡ k + 0 = omega arith in ap (octetAt t) e ∙ (let z : octetAt t (k + 0) ≡ 0 * 256 + octetAt t (k + 0) = omega arith in z)
 
 pub two-octets : (t : List ℕ) (k : ℕ) → octetAt t k * 256 + octetAt t (k + 1) ≡ numberAt t k 2
 unfolding numberAt
 two-octets t k =
     let e : k ≡ k + 0 = omega arith in
-    ap (λ (j : ℕ). octetAt t j * 256 + octetAt t (k + 1)) e ∙ (let z : octetAt t (k + 0) * 256 + octetAt t (k + 1) ≡ (0 * 256 + octetAt t (k + 0)) * 256 + octetAt t (k + 1) = omega arith in z)
+    ap (λ (j : ℕ). octetAt t j * 256 + octetAt t (k + 1)) e
+    ∙ (let z : octetAt t (k + 0) * 256 + octetAt t (k + 1) ≡ (0 * 256 + octetAt t (k + 0)) * 256 + octetAt t (k + 1) = omega arith in z)
 
 module _ (t os : List ℕ) (n : ℕ) (e : frame t ≡ octets os) (size : length os ≡ n + 3) where
   body-size : length (bodyOf os) ≡ n
@@ -60,7 +62,9 @@ module _ (t os : List ℕ) (n : ℕ) (e : frame t ≡ octets os) (size : length 
   fields [] s h = refl
   fields (w ∷ ws) s h =
       λ j. field s w (omega arith) j
-      ∷ (ap (values ws) (drop-drop w s (bodyOf os)) ∙ fields ws (s + w) (omega arith) ∙ ap (fieldsAt t ws) (let z : 2 + (s + w) ≡ 2 + s + w = omega arith in z)) j
+      ∷ (ap (values ws) (drop-drop w s (bodyOf os))
+      ∙ fields ws (s + w) (omega arith)
+      ∙ ap (fieldsAt t ws) (let z : 2 + (s + w) ≡ 2 + s + w = omega arith in z)) j
 
   -- the numbers of a line of kind k
   pub numbers-are : (k : Kind) → total (widths k) ≡ n → numbers k os ≡ fieldsAt t (widths k) 2

@@ -65,7 +65,8 @@ module _ (t : Reading) (k : Kind) (os : List ℕ) where
       go (yes e) =
           or-right (not (eqb (kindOctet os) (code k))) _
           (or-right (eqb (t .last) 0xFF) _
-          (or-left (not (eqb (cond (isKind k head) 1 0) (cond (eqb (t .lines) 0) 1 0))) _ (rw (ne-eqb (code k) 1 (λ q. h (e ∙ q)), eq-eqb (t .lines) 0 z))))
+          (or-left (not (eqb (cond (isKind k head) 1 0) (cond (eqb (t .lines) 0) 1 0))) _
+          (rw (ne-eqb (code k) 1 (λ q. h (e ∙ q)), eq-eqb (t .lines) 0 z))))
       go (no q) = misplaced-other q
 
   -- a head elsewhere than first
@@ -77,7 +78,8 @@ module _ (t : Reading) (k : Kind) (os : List ℕ) where
       (or-left (not (eqb (cond (isKind k head) 1 0) (cond (eqb (t .lines) 0) 1 0))) _ (rw (e, ne-eqb (t .lines) 0 h))))
 
   -- a line in its place
-  pub well-placed : kindOctet os ≡ code k → t .last ≢ 0xFF → isKind k head ≡ false → 1 ≤ t .lines → t .last ≤ code k → length (bodyOf os) ≡ total (widths k) → misplaced t k os ≡ false
+  pub well-placed : kindOctet os ≡ code k → t .last ≢ 0xFF → isKind k head ≡ false → 1 ≤ t .lines → t .last ≤ code k
+      → length (bodyOf os) ≡ total (widths k) → misplaced t k os ≡ false
   unfolding misplaced
   well-placed e n h b l s =
       rw (eq-eqb _ _ e, ne-eqb (t .last) 0xFF n, h, ne-eqb (t .lines) 0 (λ z. omega arith), le-ltb (code k) (t .last) l, eq-eqb _ _ s)
@@ -88,12 +90,14 @@ module _ (t : Reading) (k : Kind) (os : List ℕ) where
   unfolding lineRefusal
   refused-place e = rw e
 
-  pub refused-row : misplaced t k os ≡ false → isKind k end ≡ false → lineRefusal t k os ≡ rowRefusal k (count k (t .rules)) (t .rules) (numbers k os)
+  pub refused-row : misplaced t k os ≡ false → isKind k end ≡ false
+      → lineRefusal t k os ≡ rowRefusal k (count k (t .rules)) (t .rules) (numbers k os)
   unfolding lineRefusal endWrong rowRefusal rowCauses
   refused-row e f = rw (e, f)
 
 -- the head, at the top
-pub placed-first : (t : Reading) (os : List ℕ) → kindOctet os ≡ 1 → t .lines ≡ 0 → t .last ≡ 0 → length (bodyOf os) ≡ 2 → misplaced t head os ≡ false
+pub placed-first : (t : Reading) (os : List ℕ) → kindOctet os ≡ 1 → t .lines ≡ 0 → t .last ≡ 0 → length (bodyOf os) ≡ 2
+    → misplaced t head os ≡ false
 unfolding misplaced
 placed-first t os e l z s = rw (eq-eqb (kindOctet os) 1 e, z, l, eq-eqb (length (bodyOf os)) 2 s)
 
@@ -109,21 +113,28 @@ module _ (t : Reading) (text : List ℕ) (offset : ℕ) (l : offset < length tex
 
   module _ {os : List ℕ} (e : frame (drop offset text) ≡ octets os) (k : Kind) (known : kindOf (kindOctet os) ≡ k) where
     read-line : read t (lines (drop offset text))
-        ≡ cond (eqb (lineRefusal t k os) 0) (read (afterLine t k os) (lines (restOf (drop offset text)))) (notLoaded (lineRefusal t k os) (t .lines + 1))
+        ≡ cond (eqb (lineRefusal t k os) 0) (read (afterLine t k os) (lines (restOf (drop offset text))))
+        (notLoaded (lineRefusal t k os) (t .lines + 1))
     unfolding read
     read-line =
         ap (read t) (lines-cons (drop offset text) some ∙ ap (λ (f : Framed). f ∷ lines (restOf (drop offset text))) e)
-        ∙ (λ i. cond (eqb (lineRefusal t (known i) os) 0) (read (afterLine t (known i) os) (lines (restOf (drop offset text)))) (notLoaded (lineRefusal t (known i) os) (t .lines + 1)))
+        ∙ (λ i. cond (eqb (lineRefusal t (known i) os) 0) (read (afterLine t (known i) os) (lines (restOf (drop offset text))))
+        (notLoaded (lineRefusal t (known i) os) (t .lines + 1)))
 
     pub read-not : {n : ℕ} → lineRefusal t k os ≡ n → n ≢ 0 → read t (lines (drop offset text)) ≡ notLoaded n (t .lines + 1)
     read-not {n} f h =
-        read-line ∙ (λ i. cond (eqb (f i) 0) (read (afterLine t k os) (lines (restOf (drop offset text)))) (notLoaded (f i) (t .lines + 1))) ∙ rw (ne-eqb n 0 h)
+        read-line
+        ∙ (λ i. cond (eqb (f i) 0) (read (afterLine t k os) (lines (restOf (drop offset text)))) (notLoaded (f i) (t .lines + 1)))
+        ∙ rw (ne-eqb n 0 h)
 
-    pub read-on : lineRefusal t k os ≡ 0 → read t (lines (drop offset text)) ≡ read (afterLine t k os) (lines (drop (offset + 2 * length os + 1) text))
+    pub read-on : lineRefusal t k os ≡ 0
+        → read t (lines (drop offset text)) ≡ read (afterLine t k os) (lines (drop (offset + 2 * length os + 1) text))
     read-on f =
         let (a, b) = next-line (drop offset text) e in
         let q : drop (offset + 2 * length os + 1) text ≡ restOf (drop offset text) =
-        ap (λ (n : ℕ). drop n text) (let z : offset + 2 * length os + 1 ≡ offset + (2 * length os + 1) = omega arith in z) ∙ sym (drop-drop (2 * length os + 1) offset text) ∙ b in
+        ap (λ (n : ℕ). drop n text) (let z : offset + 2 * length os + 1 ≡ offset + (2 * length os + 1) = omega arith in z)
+        ∙ sym (drop-drop (2 * length os + 1) offset text)
+        ∙ b in
         read-line
         ∙ (λ i. cond (eqb (f i) 0) (read (afterLine t k os) (lines (restOf (drop offset text)))) (notLoaded (f i) (t .lines + 1)))
         ∙ ap (λ (u : List ℕ). read (afterLine t k os) (lines u)) (sym q)
@@ -134,7 +145,8 @@ pub body-length : (os : List ℕ) → 3 ≤ length os → length (bodyOf os) + 3
 body-length os l = omega (arith, length-take (length os - 3) (drop 2 os), length-drop 2 os)
 
 -- a line that `nextOf` refuses is refused by loading
-pub refused-reading : (t : Reading) (text : List ℕ) (offset : ℕ) (k : Kind) (size n : ℕ) → size ≡ total (widths k) + 3 → RefusedLine text offset (code k) size n
+pub refused-reading : (t : Reading) (text : List ℕ) (offset : ℕ) (k : Kind) (size n : ℕ) → size ≡ total (widths k) + 3
+    → RefusedLine text offset (code k) size n
     → (n ≢ 0) × (read t (lines (drop offset text)) ≡ notLoaded n (t .lines + 1))
 refused-reading t text offset k size n s (unframed l f) = (λ z. let b = refused-is _ f in omega arith, read-refused t text offset l f)
 refused-reading t text offset k size n s (other-size l {os} f o d w) =

@@ -1,4 +1,5 @@
--- Partway through the lines of one kind, for any kind that has a table: what a line more, a refused line and a line of another kind make of it.
+-- Partway through the lines of one kind, for any kind that has a table: what a line more, a refused line and a line of another kind make of
+-- it.
 use Prim.Native.Nat.{ℕ, _+_, _≤_, _<_}
 use mathlib.Core.Path.{_≡_, refl, sym, _∙_, ap}
 use mathlib.Core.Logic.{_≢_}
@@ -27,7 +28,8 @@ use Rattle.reading.specs.declared.Stage.{Stage}
 use Rattle.reading.specs.Body.{widths, numbers}
 use Rattle.reading.specs.Loading.{misplaced, lineRefusal, afterLine, notLoaded, read}
 use Rattle.reading.specs.Stages.{reading, loadedFrom, refusedAt, Begun, Ready, Reads}
-use Rattle.reading.proofs.OneLine.{misplaced-other, misplaced-below, well-placed, refused-row, read-not, read-on, body-length, refused-reading}
+use Rattle.reading.proofs.OneLine.{misplaced-other, misplaced-below, well-placed, refused-row, read-not, read-on, body-length}
+use Rattle.reading.proofs.OneLine.{refused-reading}
 
 -- a stage of the cursor and the record
 abbrev pub stage : Cursor → Record → Stage
@@ -48,7 +50,8 @@ pub record Partway (text : List ℕ) (k : Kind) (start : Stage) (c : Cursor) (r 
   pub others : (os : List ℕ) → frame (drop (c .offset) text) ≡ octets os → kindOctet os < code k
       → misplaced (reading (stage c r)) (kindOf (kindOctet os)) os ≡ true
 
-pub partway-start : (text : List ℕ) (k : Kind) (s : Stage) → s .cursor .number ≡ 0 → Ready text k s → Partway text k s (s .cursor) (s .rules)
+pub partway-start : (text : List ℕ) (k : Kind) (s : Stage) → s .cursor .number ≡ 0 → Ready text k s
+    → Partway text k s (s .cursor) (s .rules)
 partway-start text k s n r =
     let e : count k (s .rules) ≡ 0 = r .empty k (omega arith) in
     let b = r .begun in
@@ -62,11 +65,13 @@ partway-start text k s n r =
     }
 
 -- what is loaded from a stage that goes on, and from one at which a line was refused
-pub from-on : (text : List ℕ) (s : Stage) → s .cursor .number ≡ 0 → loadedFrom text s ≡ read (reading s) (lines (drop (s .cursor .offset) text))
+pub from-on : (text : List ℕ) (s : Stage) → s .cursor .number ≡ 0
+    → loadedFrom text s ≡ read (reading s) (lines (drop (s .cursor .offset) text))
 unfolding loadedFrom
 from-on text s e = rw e
 
-pub from-refused : (text : List ℕ) (c : Cursor) (n : ℕ) (r : Record) → n ≢ 0 → loadedFrom text (refusedAt c n r) ≡ notLoaded n (c .lines + 1)
+pub from-refused : (text : List ℕ) (c : Cursor) (n : ℕ) (r : Record) → n ≢ 0
+    → loadedFrom text (refusedAt c n r) ≡ notLoaded n (c .lines + 1)
 unfolding loadedFrom
 from-refused text c n r h = rw (ne-eqb n 0 h)
 
@@ -84,7 +89,8 @@ module _ (text : List ℕ) (k : Kind) (p : HasTable k) (start : Stage) (c : Curs
   on = sym (g .same) ∙ from-on text (stage c r) (g .fresh)
 
   -- the line is refused as one of its kind
-  pub partway-unread : (size n : ℕ) → size ≡ total (widths k) + 3 → nextOf text (c .offset) (code k) size ≡ Refused n → Reads text k start (refusedAt c n r)
+  pub partway-unread : (size n : ℕ) → size ≡ total (widths k) + 3 → nextOf text (c .offset) (code k) size ≡ Refused n
+      → Reads text k start (refusedAt c n r)
   partway-unread size n s e =
       let (h, q) = refused-reading (reading (stage c r)) text (c .offset) k size n s (refused-line text (c .offset) (code k) size e) in
       record { same = from-refused text c n r h ∙ sym (on ∙ q); ready = λ z. absurd (h z) }
@@ -136,7 +142,9 @@ module _ (text : List ℕ) (k : Kind) (p : HasTable k) (start : Stage) (c : Curs
     pub partway-refused : (n : ℕ) → n ≡ rowRefusal k (count k r) r (numbers k (f .os)) → n ≢ 0 → Reads text k start (refusedAt c n r)
     partway-refused n e h =
         record {
-          same = from-refused text c n r h ∙ sym (on ∙ read-not (reading (stage c r)) text (c .offset) (f .within) (f .framed) k known (refusal ∙ sym e) h);
+          same =
+              from-refused text c n r h
+              ∙ sym (on ∙ read-not (reading (stage c r)) text (c .offset) (f .within) (f .framed) k known (refusal ∙ sym e) h);
           ready = λ z. absurd (h z);
         }
 
@@ -168,13 +176,18 @@ module _ (text : List ℕ) (k : Kind) (p : HasTable k) (start : Stage) (c : Curs
           };
           last = omega arith;
           empty = λ j l. count-other k j r v (ne-eqb (code k) (code j) (λ z. omega arith)) ∙ g .empty j l;
-          others = λ os q l. misplaced-below (reading (stage (movedPast c (code k) next sum) (appended k r v))) (kindOf (kindOctet os)) os l;
+          others =
+              λ os q l. misplaced-below (reading (stage (movedPast c (code k) next sum) (appended k r v))) (kindOf (kindOctet os)) os l;
         }
       where
-        moved : read (reading (stage c r)) (lines (drop (c .offset) text)) ≡ read (reading (stage (movedPast c (code k) next sum) (appended k r (numbers k (f .os))))) (lines (drop next text))
+        moved :
+            read (reading (stage c r)) (lines (drop (c .offset) text))
+            ≡ read (reading (stage (movedPast c (code k) next sum) (appended k r (numbers k (f .os))))) (lines (drop next text))
         moved =
             read-on (reading (stage c r)) text (c .offset) (f .within) (f .framed) k known (refusal ∙ sym e)
-            ∙ (λ i. read (record { lines = c .lines + 1; last = code k; sum = c .sum + sym (f .summed) i; rules = appended k r (numbers k (f .os)) }) (lines (drop (sym (f .follows) i) text)))
+            ∙ (λ i. read
+            (record { lines = c .lines + 1; last = code k; sum = c .sum + sym (f .summed) i; rules = appended k r (numbers k (f .os)) })
+            (lines (drop (sym (f .follows) i) text)))
 
 -- a stage that was refused before stays as it is
 pub reads-refused : (text : List ℕ) (k : Kind) (s : Stage) → s .cursor .number ≢ 0 → Reads text k s s

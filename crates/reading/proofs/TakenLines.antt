@@ -11,14 +11,16 @@ use Rattle.common.specs.Limits.{mostFormulas, mostLines}
 use Rattle.octets.specs.Line.{total}
 use Rattle.octets.specs.Answers.{octetAt}
 use Rattle.policy.specs.declared.Record.{Record}
-use Rattle.policy.specs.Table.{Kind, head, user, edge, formula, demarcation, hierarchy, principal, exclusion, prerequisite, method, end, code, count, room, appended, kindOf}
+use Rattle.policy.specs.Table.{Kind, head, user, edge, formula, demarcation, hierarchy, principal, exclusion, prerequisite, method, end}
+use Rattle.policy.specs.Table.{code, count, room, appended, kindOf}
 use Rattle.policy.specs.LinesBefore.{lines-most}
 use Rattle.policy.specs.Height.{height}
 use Rattle.policy.specs.HeightLaws.{Heights, heights-start, heights-low, height-here, heights-appended}
 use Rattle.policy.specs.LoadableLaws.{table-few}
 use Rattle.policy.specs.TableLaws.{count-same, least-appended}
 use Rattle.policy.specs.Rows.{minimumKey, rowRefusal}
-use Rattle.policy.specs.RowLaws.{user-values, edge-values, formula-values, demarcation-values, hierarchy-values, principal-values, exclusion-values, prerequisite-values, method-values}
+use Rattle.policy.specs.RowLaws.{user-values, edge-values, formula-values, demarcation-values, hierarchy-values, principal-values}
+use Rattle.policy.specs.RowLaws.{exclusion-values, prerequisite-values, method-values}
 use Rattle.rows.specs.Op.{opOf, heightOf}
 use Rattle.lines.specs.declared.Row.{Row}
 use Rattle.lines.specs.declared.Bounds.{Bounds}
@@ -33,7 +35,8 @@ use Rattle.reading.specs.Body.{widths, numbers}
 use Rattle.reading.specs.Stages.{refusedAt, ReadableKind, Ready, Reads}
 use Rattle.reading.proofs.AppendedAt.{appendedAt, appended-at}
 use Rattle.reading.proofs.Bodies.{fieldsAt, one-octet, two-octets, numbers-are}
-use Rattle.reading.proofs.Partway.{stage, HasTable, Partway, partway-start, partway-unread, partway-done, partway-refused, has-room, partway-more, cursor-bound}
+use Rattle.reading.proofs.Partway.{stage, HasTable, Partway, partway-start, partway-unread, partway-done, partway-refused, has-room}
+use Rattle.reading.proofs.Partway.{partway-more, cursor-bound}
 
 -- ---- kind by kind
 
@@ -60,7 +63,15 @@ row-numbers end p t = absurd (let l = p .high in omega arith)
 -- what refuses them, held to the counts of a record
 abbrev pub boundsOf : Record → ℕ → ℕ → Bounds
 boundsOf r row least =
-    record { row = row; «least_key» = least; objects = r .objects; formulas = r .«formula_count»; demarcations = r .«demarcation_count»; principals = r .«principal_count» }
+    record {
+      row = row;
+      «least_key» = least;
+      objects = r .objects;
+      formulas = r .«formula_count»;
+      demarcations = r .«demarcation_count»;
+      principals =
+          r .«principal_count»;
+    }
 
 row-refused : (k : Kind) → HasTable k → (r : Record) (i : ℕ) {least : ℕ} (h : ℕ) (v : Row) → least ≡ minimumKey k i r
     → (code k ≡ code formula → h ≡ heightOf (opOf (v .a)) (v .b) (v .c) (height r i))
@@ -89,7 +100,8 @@ pub record TakenLines (text : List ℕ) (kind : ℕ) (start : Stage) (c : Cursor
   pub lowest : least ≡ minimumKey (kindOf kind) (count (kindOf kind) r) r
   pub high : kind ≡ code formula → Heights r heights (count formula r)
 
-pub taken-start : (text : List ℕ) {kind size : ℕ} → ReadableKind kind size → (s : Stage) → s .cursor .number ≡ 0 → Ready text (kindOf kind) s
+pub taken-start : (text : List ℕ) {kind size : ℕ} → ReadableKind kind size → (s : Stage) → s .cursor .number ≡ 0
+    → Ready text (kindOf kind) s
     → TakenLines text kind s (s .cursor) (s .rules) 0 0 (replicate mostFormulas 0)
 taken-start text {kind} w s z r =
     let e : count (kindOf kind) (s .rules) ≡ 0 = r .empty (kindOf kind) (omega arith) in
@@ -100,7 +112,8 @@ taken-start text {kind} w s z r =
       high = λ q. heights-start (s .rules) (r .empty formula (let k = w .octet .known in omega arith));
     }
 
-module _ {text : List ℕ} {kind size : ℕ} {start : Stage} {c : Cursor} {r : Record} {n least : ℕ} {heights : List ℕ} (w : ReadableKind kind size) (g : TakenLines text kind start c r n least heights) where
+module _ {text : List ℕ} {kind size : ℕ} {start : Stage} {c : Cursor} {r : Record} {n least : ℕ} {heights : List ℕ}
+    (w : ReadableKind kind size) (g : TakenLines text kind start c r n least heights) where
   as-kind : nextOf text (c .offset) (code (kindOf kind)) size ≡ nextOf text (c .offset) kind size
   as-kind = ap (λ (o : ℕ). nextOf text (c .offset) o size) (w .octet .known)
 
@@ -123,12 +136,15 @@ module _ {text : List ℕ} {kind size : ℕ} {start : Stage} {c : Cursor} {r : R
     module _ {v : Row} (q : v ≡ rowAt kind (drop (c .offset) text)) where
       fields : numbers (kindOf kind) (found .os) ≡ fieldsOf (kindOf kind) v
       fields =
-          numbers-are (drop (c .offset) text) (found .os) (total (widths (kindOf kind))) (found .framed) (found .sized ∙ w .sized) (kindOf kind) refl
+          numbers-are (drop (c .offset) text) (found .os) (total (widths (kindOf kind))) (found .framed) (found .sized ∙ w .sized)
+          (kindOf kind) refl
           ∙ row-numbers (kindOf kind) (has-table w) (drop (c .offset) text)
           ∙ ap (fieldsOf (kindOf kind)) (ap (λ (o : ℕ). rowAt o (drop (c .offset) text)) (w .octet .known) ∙ sym q)
 
       module _ {h : ℕ} (u : h ≡ heightBy kind v (at heights)) where
-        refusal : refusalBy (kindOf kind) (boundsOf r n least) h v ≡ rowRefusal (kindOf kind) (count (kindOf kind) r) r (numbers (kindOf kind) (found .os))
+        refusal :
+            refusalBy (kindOf kind) (boundsOf r n least) h v
+            ≡ rowRefusal (kindOf kind) (count (kindOf kind) r) r (numbers (kindOf kind) (found .os))
         refusal =
             ap (λ (m : ℕ). refusalBy (kindOf kind) (boundsOf r m least) h v) (g .counted)
             ∙ row-refused (kindOf kind) (has-table w) r (count (kindOf kind) r) h v (g .lowest) tall
@@ -140,7 +156,8 @@ module _ {text : List ℕ} {kind size : ℕ} {start : Stage} {c : Cursor} {r : R
                 height-here (g .high f) (v .a) (v .b) (v .c) (u ∙ rw (eq-eqb kind 4 f))
                 ∙ ap (λ (k : Kind). heightOf (opOf (v .a)) (v .b) (v .c) (height r (count k r))) (sym (ap kindOf f))
 
-  pub taken-refused : {x : ℕ} → Refuses text c kind size (boundsOf r n least) (at heights) x → Reads text (kindOf kind) start (refusedAt c x r)
+  pub taken-refused : {x : ℕ} → Refuses text c kind size (boundsOf r n least) (at heights) x
+      → Reads text (kindOf kind) start (refusedAt c x r)
   taken-refused {x} (as-line e) = partway-unread text (kindOf kind) (has-table w) start c r (g .partway) size x (w .sized) (as-kind ∙ e)
   taken-refused {x} (by-numbers e q u z h) =
       partway-refused text (kindOf kind) (has-table w) start c r (g .partway) (w .sized) (found e) x (z ∙ refusal e q u) h
@@ -175,9 +192,14 @@ module _ {text : List ℕ} {kind size : ℕ} {start : Stage} {c : Cursor} {r : R
         ∙ sym y in
         record {
           partway =
-              subst₂ (Partway text (kindOf kind) start) (ap (λ (o : ℕ). movedPast c o (t .following) (t .sum)) (w .octet .known) ∙ sym (t .moved)) (ap (appended (kindOf kind) r) (fields (t .found) (t .row)) ∙ grown)
+              subst₂ (Partway text (kindOf kind) start)
+              (ap (λ (o : ℕ). movedPast c o (t .following) (t .sum)) (w .octet .known) ∙ sym (t .moved))
+              (ap (appended (kindOf kind) r) (fields (t .found) (t .row)) ∙ grown)
               (partway-more text (kindOf kind) (has-table w) start c r (g .partway) (w .sized) (found (t .found)) (sym passes));
-          counted = ap (λ (m : ℕ). m + 1) (g .counted) ∙ sym (count-same (kindOf kind) r (fieldsOf (kindOf kind) v) low high) ∙ ap (count (kindOf kind)) grown;
+          counted =
+              ap (λ (m : ℕ). m + 1) (g .counted)
+              ∙ sym (count-same (kindOf kind) r (fieldsOf (kindOf kind) v) low high)
+              ∙ ap (count (kindOf kind)) grown;
           lowest =
               t .least ∙ sym (least-appended (kindOf kind) r (fieldsOf (kindOf kind) v) low high (g .partway .begun .sized) few)
               ∙ ap (λ (s : Record). minimumKey (kindOf kind) (count (kindOf kind) s) s) grown;
@@ -185,11 +207,13 @@ module _ {text : List ℕ} {kind size : ℕ} {start : Stage} {c : Cursor} {r : R
         }
       where
         -- a formula more, with its height
-        taller : kind ≡ code formula → {after : Record} {tall : List ℕ} → appended (kindOf kind) r (fieldsOf (kindOf kind) v) ≡ after → tall ≡ set heights n h
+        taller : kind ≡ code formula → {after : Record} {tall : List ℕ} → appended (kindOf kind) r (fieldsOf (kindOf kind) v) ≡ after
+            → tall ≡ set heights n h
             → Heights after tall (count formula after)
         taller f e z =
             let same : n ≡ count formula r = g .counted ∙ ap (λ (k : Kind). count k r) (ap kindOf f) in
             let l : count formula r < mostFormulas = (let m = taken-room formula (ap kindOf f) in omega arith) in
             let shown = heights-appended (v .a) (v .b) (v .c) (g .partway .begun .sized) l (g .high f) (t .height ∙ rw (eq-eqb kind 4 f)) in
-            subst₂ (λ (s : Record) (k : List ℕ). Heights s k (count formula s)) (sym (ap (λ (k : Kind). appended k r (fieldsOf k v)) (ap kindOf f)) ∙ e) (ap (λ (i : ℕ). set heights i h) (sym same) ∙ sym z)
+            subst₂ (λ (s : Record) (k : List ℕ). Heights s k (count formula s))
+            (sym (ap (λ (k : Kind). appended k r (fieldsOf k v)) (ap kindOf f)) ∙ e) (ap (λ (i : ℕ). set heights i h) (sym same) ∙ sym z)
             (subst (Heights _ _) (sym (count-same formula r (fieldsOf formula v) (omega arith) (omega arith))) shown)

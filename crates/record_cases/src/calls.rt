@@ -17,7 +17,8 @@ pub struct Command {
     pub c: u8,
 }
 
-// What the last call said: its number, its value (the set, 1 for yes, the length written) and its evaluations, and of the record that it handed back
+// What the last call said: its number, its value (the set, 1 for yes, the length written) and its evaluations, and of the record that it
+// handed back
 // the count of edges and the memo. Then whether each call since the last edge was added has handed the record back as it was, given
 // nothing, and said 19.
 pub struct Said {

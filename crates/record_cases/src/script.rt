@@ -27,7 +27,8 @@ fn command_at(text: &[u8], opening: u8, offset: usize) -> Command {
     }
 }
 
-// The record after a command, which changes it if `[` opens it: 0 the loaded one, 1 the blank one, 2 a full graph, and else a number of a column.
+// The record after a command, which changes it if `[` opens it: 0 the loaded one, 1 the blank one, 2 a full graph, and else a number of a
+// column.
 fn changed(loaded: Record, rules: Record, q: Command) -> Record {
     if q.opening != b'[' {
         return rules;

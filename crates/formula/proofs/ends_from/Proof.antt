@@ -60,7 +60,8 @@ loop-again c =
     let l = x .before .before .before in
     let a = l .before .before .args in
     let h : y .index2 .result < length (l .loop .r) = omega arith in (
-      λ v. ends-more (a .labels .now) (a .starts .now) (a .ends .now) (a .label) (a .asked .now) (l .loop .r) (l .loop .i) (x .index .result)
+      λ v. ends-more (a .labels .now) (a .starts .now) (a .ends .now) (a .label) (a .asked .now) (l .loop .r) (l .loop .i)
+          (x .index .result)
           (y .index2 .result) (x .index .ensures .0) (y .index2 .ensures .0) v h (l .loop .inv .0 v),
       simp length-set (l .loop .inv .1),
       omega

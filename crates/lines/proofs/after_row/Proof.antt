@@ -41,7 +41,8 @@ returns-6 c =
     let m = c .match .rest in
     let e = c .before .pre .known in
     let x = c .before .args in
-    after-none (kindOf (x .kind)) (x .row) (λ q. m .0 .0 .0 .0 .1 (sym e ∙ q)) (λ q. m .0 .0 .0 .1 (sym e ∙ q)) (λ q. m .0 .0 .1 (sym e ∙ q)) (λ q. m .0 .1 (sym e ∙ q)) (λ q. m .1 (sym e ∙ q))
+    after-none (kindOf (x .kind)) (x .row) (λ q. m .0 .0 .0 .0 .1 (sym e ∙ q)) (λ q. m .0 .0 .0 .1 (sym e ∙ q))
+    (λ q. m .0 .0 .1 (sym e ∙ q)) (λ q. m .0 .1 (sym e ∙ q)) (λ q. m .1 (sym e ∙ q))
 
 pub after-row-spec : {M : Type 1} → statement M
 after-row-spec =

@@ -19,7 +19,9 @@ line n = n .before .before
 abbrev ours : tie.After-row-refusal → tie.After-next
 ours q = q .before .before .before .before
 
-found : (n : tie.After-next) → let x = entry (line n) .args in nextOf (x .text .now) (x .cursor .offset) (x .kind) (x .size) ≡ Body (n .next .given .0 .0) (n .next .given .0 .1 .0)
+found : (n : tie.After-next) → let x =
+    entry (line n) .args in nextOf (x .text .now) (x .cursor .offset) (x .kind) (x .size)
+    ≡ Body (n .next .given .0 .0) (n .next .given .0 .1 .0)
 found n = sym (line n .next-line .ensures) ∙ n .next .given .1
 
 next-line-requires : tie.Need-next-line-requires
@@ -46,7 +48,8 @@ row-refusal-requires c κs = search needs
 returns : tie.Need-returns
 returns c =
     let q = c .before in
-    by-numbers (found (ours q)) (q .before .before .row-at .ensures) (q .before .height-of .ensures) (q .row-refusal .ensures) (c .if1 .taken)
+    by-numbers (found (ours q)) (q .before .before .row-at .ensures) (q .before .height-of .ensures) (q .row-refusal .ensures)
+    (c .if1 .taken)
 
 after-row-requires : tie.Need-after-row-requires
 after-row-requires c κs = search needs

@@ -24,7 +24,9 @@ octet-at-requires : tie.Need-octet-at-requires
 octet-at-requires c κs = search needs
 
 -- the octets of the line that was read
-line : (c : tie.After-count) → let f = c .before .before in let g = c .count .given .0 in AnswerOctets (f .before .before .before .args .offset) (g .0) (g .1 .0) (g .1 .1 .0) (frame (drop (f .before .before .before .args .offset) (f .before .before .before .args .text .now)))
+line : (c : tie.After-count) → let f =
+    c .before .before in let g = c .count .given .0 in AnswerOctets (f .before .before .before .args .offset) (g .0) (g .1 .0) (g .1 .1 .0)
+    (frame (drop (f .before .before .before .args .offset) (f .before .before .before .args .text .now)))
 line c = let f = c .before .before in answer-octets _ _ _ _ _ (sym (f .read-line .ensures) ∙ c .count .given .1)
 
 returns-2 : tie.Need-returns-2

@@ -22,7 +22,9 @@ not-loaded-requires c κs = search needs
 returns : tie.Need-returns
 returns c =
     let l = c .before .before .before .before in
-    c .not-loaded .ensures ∙ ended-refused _ _ _ _ (l .before .if1 .taken) (answer-refused _ _ _ (sym (l .read-line .ensures) ∙ c .before .before .number .given .1))
+    c .not-loaded .ensures
+    ∙ ended-refused _ _ _ _ (l .before .if1 .taken)
+    (answer-refused _ _ _ (sym (l .read-line .ensures) ∙ c .before .before .number .given .1))
 
 enum-told : tie.Need-enum-told
 enum-told c = search needs
@@ -36,7 +38,9 @@ not-loaded-requires-2 c κs = search needs
 returns-2 : tie.Need-returns-2
 returns-2 c =
     let l = c .before .before .before in
-    c .not-loaded2 .ensures ∙ ended-more _ _ _ _ (l .before .if1 .taken) (answer-octets _ _ _ _ _ (sym (l .read-line .ensures) ∙ c .before .enum-told .given .1) .framed)
+    c .not-loaded2 .ensures
+    ∙ ended-more _ _ _ _ (l .before .if1 .taken)
+    (answer-octets _ _ _ _ _ (sym (l .read-line .ensures) ∙ c .before .enum-told .given .1) .framed)
 
 has-circles-requires : tie.Need-has-circles-requires
 has-circles-requires c κs = c .before .before .pre .1 .loads
@@ -45,7 +49,9 @@ not-loaded-requires-3 : tie.Need-not-loaded-requires-3
 not-loaded-requires-3 c κs = search needs
 
 returns-3 : tie.Need-returns-3
-returns-3 c = c .not-loaded3 .ensures ∙ ended-circle _ _ _ _ (c .before .before .before .if1 .left) (c .before .before .has-circles .ensures) (c .before .if2 .taken)
+returns-3 c =
+    c .not-loaded3 .ensures
+    ∙ ended-circle _ _ _ _ (c .before .before .before .if1 .left) (c .before .before .has-circles .ensures) (c .before .if2 .taken)
 
 returns-4 : tie.Need-returns-4
 returns-4 c = ended-well _ _ _ _ (c .before .before .if1 .left) (c .before .has-circles .ensures) (c .if2 .left)

@@ -109,7 +109,8 @@ returns-4 : tie.Need-returns-4
 returns-4 c =
     let m = c .before .before .before .before in
     let e = tested (line (ours m)) in
-    c .not-loaded6 .ensures ∙ finish-sum _ _ (e .if1 .left) (ready e) (found (ours m)) (m .number-at2 .ensures) (c .before .before .if4 .taken)
+    c .not-loaded6 .ensures
+    ∙ finish-sum _ _ (e .if1 .left) (ready e) (found (ours m)) (m .number-at2 .ensures) (c .before .before .if4 .taken)
 
 add-ended : tie.Need-add-ended
 add-ended c = let b = few (c .before .before .before) in omega arith
@@ -140,7 +141,8 @@ returns-7 c =
     let m = f .before .before in
     let e = tested (line (ours m)) in
     c .ended .ensures
-    ∙ finish-ended _ _ (e .if1 .left) (ready e) (found (ours m)) (m .before .number-at .ensures) (f .before .if3 .left) (m .number-at2 .ensures)
+    ∙ finish-ended _ _ (e .if1 .left) (ready e) (found (ours m)) (m .before .number-at .ensures) (f .before .if3 .left)
+    (m .number-at2 .ensures)
     (f .if4 .left)
 
 pub finish-spec : {M : Type 1} → statement M

@@ -47,7 +47,8 @@ loop-again : tie.Need-loop-again Inv-loop μ-loop
 loop-again c =
     let x = c .before .before in
     let i = in-loop x in (
-      marks-more (i .before .loop .inv .0) _ (ap (λ (f : ℕ). value (i .before .before .args .t3) f) (x .index .ensures)) (c .marked .ensures),
+      marks-more (i .before .loop .inv .0) _ (ap (λ (f : ℕ). value (i .before .before .args .t3) f) (x .index .ensures))
+          (c .marked .ensures),
       omega (arith, i .loop-test .taken),
     )
 

@@ -85,7 +85,8 @@ past-requires c κs =
 returns-2 : tie.Need-returns-2
 returns-2 c =
     let l = c .before .before .before in
-    subst (Starts _) (sym (c .stopped .ensures)) (head-other _ _ (entry l .pre) (sym (l .next-line .ensures) ∙ c .before .enum-told .given .1))
+    subst (Starts _) (sym (c .stopped .ensures))
+    (head-other _ _ (entry l .pre) (sym (l .next-line .ensures) ∙ c .before .enum-told .given .1))
 
 returns-3 : tie.Need-returns-3
 returns-3 c =

@@ -8,13 +8,15 @@ use borrow.Author.Needs.{needs}
 use lib.ListN.{length, set}
 use Rattle.common.specs.Lists.{at}
 use Rattle.policy.specs.declared.Record.{Record}
-use Rattle.policy.specs.Table.{Kind, user, edge, formula, demarcation, hierarchy, principal, exclusion, prerequisite, method, code, room, kindOf}
+use Rattle.policy.specs.Table.{Kind, user, edge, formula, demarcation, hierarchy, principal, exclusion, prerequisite, method, code, room}
+use Rattle.policy.specs.Table.{kindOf}
 use Rattle.lines.specs.Judging.{fieldsOf, Judges, Takes}
 use Rattle.lines.proofs.EachKind.{last-kind}
 use Rattle.reading.specs.Stages.{Reads}
 use Rattle.reading.proofs.AppendedAt.{appendedAt}
 use Rattle.reading.proofs.Partway.{stage, reads-refused}
-use Rattle.reading.proofs.TakenLines.{TakenLines, boundsOf, taken-start, taken-bound, taken-heights, taken-all, taken-refused, taken-room, taken-few, taken-less, taken-more}
+use Rattle.reading.proofs.TakenLines.{TakenLines, boundsOf, taken-start, taken-bound, taken-heights, taken-all, taken-refused}
+use Rattle.reading.proofs.TakenLines.{taken-room, taken-few, taken-less, taken-more}
 use Rattle.reading.proofs.read_kind.Statement.{statement}
 use Rattle.reading.proofs.read_kind.Tie as tie
 
@@ -90,7 +92,8 @@ fills q j x = let h = turn q in taken-room (entry h .pre .0) (h .loop .inv) (tak
 more : (q : tie.After-row Inv-loop μ-loop) (j : Kind) {after : Record} {tall : List ℕ} → let h = turn q in let x = entry h .args in
     let v = q .row .given .0 in kindOf (x .kind) ≡ j → after ≡ appendedAt j (h .loop .count) (h .loop .rules) (fieldsOf j (v .0))
     → (x .kind ≡ code formula → tall ≡ set (h .loop .heights) (h .loop .count) (v .1 .0))
-    → TakenLines (x .text .now) (x .kind) (stage (x .from .cursor) (x .from .rules)) (v .1 .1 .1 .0) after (h .loop .count + 1) (v .1 .1 .0) tall
+    → TakenLines (x .text .now) (x .kind) (stage (x .from .cursor) (x .from .rules)) (v .1 .1 .1 .0) after (h .loop .count + 1) (v .1 .1 .0)
+    tall
 more q j x y t = let h = turn q in taken-more (entry h .pre .0) (h .loop .inv) (takes q) j x y t
 
 less : (q : tie.After-row Inv-loop μ-loop) → let h = turn q in let x = entry h .args in

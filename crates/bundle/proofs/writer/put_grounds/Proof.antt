@@ -117,8 +117,12 @@ put-pairs-requires-2 : tie.Need-put-pairs-requires-2
 put-pairs-requires-2 c κs =
     let h = c .before .before .before .before .before .before .before .before in
     let p = entry h .pre in
-    let l = p .1 .sized .long principal in
-    (within principal _ (p .0) (l .0), within principal _ (p .0) (l .1 .0), room-table principal after-principal (rules h) (room-hierarchy h))
+    let l = p .1 .sized .long principal in (
+      within principal _ (p .0) (l .0),
+      within principal _ (p .0) (l .1 .0),
+      room-table principal after-principal (rules h) (room-hierarchy
+          h),
+    )
 
 put-pairs-requires-3 : tie.Need-put-pairs-requires-3
 put-pairs-requires-3 c κs =

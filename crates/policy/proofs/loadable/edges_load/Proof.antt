@@ -48,8 +48,13 @@ loop-less c = search needs
 loop-again : tie.Need-loop-again Inv-loop μ-loop
 loop-again c =
     let h = c .before .before .before .before .before .before in
-    let r = h .before .before .args .t1 in
-    (fits-more (h .loop .inv .0) (c .before .edge-refusal .ensures ∙ edge-values r (h .loop .i) (at (r .«edge_labels») (h .loop .i)) (at (r .«edge_sources») (h .loop .i)) (at (r .«edge_targets») (h .loop .i)) (h .loop .inv .1)), least-more r edge (h .loop .i) (c .after-edge .ensures), omega arith)
+    let r = h .before .before .args .t1 in (
+      fits-more (h .loop .inv .0) (c .before .edge-refusal .ensures
+          ∙ edge-values r (h .loop .i) (at (r .«edge_labels») (h .loop .i)) (at (r .«edge_sources») (h .loop .i))
+          (at (r .«edge_targets») (h .loop .i)) (h .loop .inv .1)),
+      least-more r edge (h .loop .i) (c .after-edge .ensures),
+      omega arith,
+    )
 
 zero-from-requires : tie.Need-zero-from-requires Inv-loop μ-loop
 zero-from-requires c κs = search needs
@@ -65,7 +70,9 @@ returns-2 c =
     let h = c .before .before .before .before .before .before .before .before .before .before .before .before .before in
     let r = h .before .before .args .t1 in
     table-all r edge (h .before .if1 .left) (h .loop .inv .0) (omega arith)
-    (zeros-three (r .«edge_count») (r .«edge_labels») (r .«edge_sources») (r .«edge_targets») (c .before .before .before .before .before .before .before .before .zero-from .ensures) (c .before .before .before .before .zero-from2 .ensures) (c .zero-from3 .ensures))
+    (zeros-three (r .«edge_count») (r .«edge_labels») (r .«edge_sources») (r .«edge_targets»)
+    (c .before .before .before .before .before .before .before .before .zero-from .ensures)
+    (c .before .before .before .before .zero-from2 .ensures) (c .zero-from3 .ensures))
 
 pub edges-load-spec : {M : Type 1} → statement M
 edges-load-spec =

@@ -45,8 +45,13 @@ loop-less c = search needs
 loop-again : tie.Need-loop-again Inv-loop μ-loop
 loop-again c =
     let h = c .before .before .before .before .before in
-    let r = h .before .before .args .t1 in
-    (fits-more (h .loop .inv .0) (c .before .exclusion-refusal .ensures ∙ exclusion-values r (h .loop .i) (at (r .«exclusion_lows») (h .loop .i)) (at (r .«exclusion_highs») (h .loop .i)) (h .loop .inv .1)), least-more r exclusion (h .loop .i) (c .after-pair .ensures), omega arith)
+    let r = h .before .before .args .t1 in (
+      fits-more (h .loop .inv .0) (c .before .exclusion-refusal .ensures
+          ∙ exclusion-values r (h .loop .i) (at (r .«exclusion_lows») (h .loop .i)) (at (r .«exclusion_highs») (h .loop .i))
+          (h .loop .inv .1)),
+      least-more r exclusion (h .loop .i) (c .after-pair .ensures),
+      omega arith,
+    )
 
 zero-from-requires : tie.Need-zero-from-requires Inv-loop μ-loop
 zero-from-requires c κs = search needs
@@ -59,7 +64,8 @@ returns-2 c =
     let h = c .before .before .before .before .before .before .before .before .before in
     let r = h .before .before .args .t1 in
     table-all r exclusion (h .before .if1 .left) (h .loop .inv .0) (omega arith)
-    (zeros-two (r .«exclusion_count») (r .«exclusion_lows») (r .«exclusion_highs») (c .before .before .before .before .zero-from .ensures) (c .zero-from2 .ensures))
+    (zeros-two (r .«exclusion_count») (r .«exclusion_lows») (r .«exclusion_highs») (c .before .before .before .before .zero-from .ensures)
+    (c .zero-from2 .ensures))
 
 pub exclusions-load-spec : {M : Type 1} → statement M
 exclusions-load-spec =

@@ -52,8 +52,14 @@ loop-again : tie.Need-loop-again Inv-loop μ-loop
 loop-again c =
     let h = c .before .before .before .before .before .before in
     let r = h .before .before .args .t1 in
-    let x = height-here (h .loop .inv .1) (at (r .«formula_ops») (h .loop .i)) (at (r .«formula_lefts») (h .loop .i)) (at (r .«formula_rights») (h .loop .i)) (c .before .formula-height .ensures) in
-    (fits-more (h .loop .inv .0) (c .formula-refusal .ensures ∙ formula-values r (h .loop .i) (at (r .«formula_ops») (h .loop .i)) (at (r .«formula_lefts») (h .loop .i)) (at (r .«formula_rights») (h .loop .i)) x), heights-more (h .loop .inv .1) (omega arith) x, omega arith)
+    let x = height-here (h .loop .inv .1) (at (r .«formula_ops») (h .loop .i)) (at (r .«formula_lefts») (h .loop .i))
+    (at (r .«formula_rights») (h .loop .i)) (c .before .formula-height .ensures) in (
+      fits-more (h .loop .inv .0) (c .formula-refusal .ensures
+          ∙ formula-values r (h .loop .i) (at (r .«formula_ops») (h .loop .i)) (at (r .«formula_lefts») (h .loop .i))
+          (at (r .«formula_rights») (h .loop .i)) x),
+      heights-more (h .loop .inv .1) (omega arith) x,
+      omega arith,
+    )
 
 zero-from-requires : tie.Need-zero-from-requires Inv-loop μ-loop
 zero-from-requires c κs = search needs
@@ -69,7 +75,9 @@ returns-2 c =
     let h = c .before .before .before .before .before .before .before .before .before .before .before .before .before in
     let r = h .before .before .args .t1 in
     table-all r formula (h .before .if1 .left) (h .loop .inv .0) (omega arith)
-    (zeros-three (r .«formula_count») (r .«formula_ops») (r .«formula_lefts») (r .«formula_rights») (c .before .before .before .before .before .before .before .before .zero-from .ensures) (c .before .before .before .before .zero-from2 .ensures) (c .zero-from3 .ensures))
+    (zeros-three (r .«formula_count») (r .«formula_ops») (r .«formula_lefts») (r .«formula_rights»)
+    (c .before .before .before .before .before .before .before .before .zero-from .ensures)
+    (c .before .before .before .before .zero-from2 .ensures) (c .zero-from3 .ensures))
 
 pub formulas-load-spec : {M : Type 1} → statement M
 formulas-load-spec =

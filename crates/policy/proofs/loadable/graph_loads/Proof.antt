@@ -17,7 +17,9 @@ demarcations-load-requires : tie.Need-demarcations-load-requires
 demarcations-load-requires c κs = search needs
 
 returns : tie.Need-returns
-returns c = λ i. c .before .before .before .users-load .ensures i && (c .before .before .edges-load .ensures i && (c .before .formulas-load .ensures i && c .demarcations-load .ensures i))
+returns c =
+    λ i. c .before .before .before .users-load .ensures i &&
+    (c .before .before .edges-load .ensures i && (c .before .formulas-load .ensures i && c .demarcations-load .ensures i))
 
 pub graph-loads-spec : {M : Type 1} → statement M
 graph-loads-spec =

@@ -25,7 +25,9 @@ returns : tie.Need-returns
 returns c =
     let r = c .before .before .before .before .before .before .before .before .before .args .rules in
     λ i. (c .before .before .before .before .before .before .pairs-load .ensures ∙ hierarchy-pairs r) i
-    && (c .before .before .before .before .before .principals-load .ensures i && (c .before .before .before .before .exclusions-load .ensures i && ((c .before .pairs-load2 .ensures ∙ prerequisite-pairs r) i && c .methods-load .ensures i)))
+    && (c .before .before .before .before .before .principals-load .ensures i
+    && (c .before .before .before .before .exclusions-load .ensures i
+    && ((c .before .pairs-load2 .ensures ∙ prerequisite-pairs r) i && c .methods-load .ensures i)))
 
 pub grounds-load-spec : {M : Type 1} → statement M
 grounds-load-spec =

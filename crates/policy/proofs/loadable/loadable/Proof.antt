@@ -3,7 +3,8 @@ use mathlib.Core.Path.{_≡_, sym, _∙_, ap}
 use mathlib.Core.Bool.{true, not}
 use native.Mathlib.Omega.{arith}
 use borrow.Author.Tests.{not-true, not-false}
-use Rattle.policy.specs.LoadableLaws.{no-circles, all-load, graphLoads, groundsLoad, loadable-no-objects, loadable-no-graph, loadable-no-grounds, loadable-all}
+use Rattle.policy.specs.LoadableLaws.{no-circles, all-load, graphLoads, groundsLoad, loadable-no-objects, loadable-no-graph}
+use Rattle.policy.specs.LoadableLaws.{loadable-no-grounds, loadable-all}
 use borrow.Author.Needs.{needs}
 use Rattle.policy.proofs.loadable.loadable.Statement.{statement}
 use Rattle.policy.proofs.loadable.loadable.Tie as tie

@@ -37,8 +37,12 @@ loop-less c = search needs
 
 loop-again : tie.Need-loop-again Inv-loop μ-loop
 loop-again c =
-    let h = c .before .before .before in
-    (fits-more (h .loop .inv .0) (c .method-refusal .ensures ∙ method-values (h .before .before .args .t1) (h .loop .i) (at (h .before .before .args .t1 .«method_forms») (h .loop .i)) (at (h .before .before .args .t1 .«method_privileges») (h .loop .i))), omega arith)
+    let h = c .before .before .before in (
+      fits-more (h .loop .inv .0) (c .method-refusal .ensures
+          ∙ method-values (h .before .before .args .t1) (h .loop .i) (at (h .before .before .args .t1 .«method_forms») (h .loop .i))
+          (at (h .before .before .args .t1 .«method_privileges») (h .loop .i))),
+      omega arith,
+    )
 
 zero-from-requires : tie.Need-zero-from-requires Inv-loop μ-loop
 zero-from-requires c κs = search needs
@@ -51,7 +55,8 @@ returns-2 c =
     let h = c .before .before .before .before .before .before .before .before .before in
     let r = h .before .before .args .t1 in
     table-all r method (h .before .if1 .left) (h .loop .inv .0) (omega arith)
-    (zeros-two (r .«method_count») (r .«method_forms») (r .«method_privileges») (c .before .before .before .before .zero-from .ensures) (c .zero-from-u64 .ensures))
+    (zeros-two (r .«method_count») (r .«method_forms») (r .«method_privileges») (c .before .before .before .before .zero-from .ensures)
+    (c .zero-from-u64 .ensures))
 
 pub methods-load-spec : {M : Type 1} → statement M
 methods-load-spec =

@@ -14,7 +14,8 @@ returns : tie.Need-returns
 returns c =
     let a = c .before .before .args in
     let p = c .before .before .pre .0 in
-    circular-pairs (a .things) (a .count) (a .firsts) (a .seconds) (c .before .related .result) p (c .before .before .pre .1) (c .before .related .ensures) (c .circular .ensures)
+    circular-pairs (a .things) (a .count) (a .firsts) (a .seconds) (c .before .related .result) p (c .before .before .pre .1)
+    (c .before .related .ensures) (c .circular .ensures)
 
 pub pairs-circular-spec : {M : Type 1} → statement M
 pairs-circular-spec = tie.close (tie.spec related-requires circular-requires returns)

@@ -40,8 +40,13 @@ loop-less c = search needs
 
 loop-again : tie.Need-loop-again Inv-loop μ-loop
 loop-again c =
-    let h = c .before .before .before .before in
-    (fits-more (h .loop .inv .0) (c .principal-refusal .ensures ∙ principal-values (h .before .before .args .t1) (h .loop .i) (at (h .before .before .args .t1 .«principal_formulas») (h .loop .i)) (at (h .before .before .args .t1 .«principal_demarcations») (h .loop .i))), omega arith)
+    let h = c .before .before .before .before in (
+      fits-more (h .loop .inv .0) (c .principal-refusal .ensures
+          ∙ principal-values (h .before .before .args .t1) (h .loop .i) (at (h .before .before .args .t1 .«principal_formulas»)
+          (h .loop .i))
+          (at (h .before .before .args .t1 .«principal_demarcations») (h .loop .i))),
+      omega arith,
+    )
 
 zero-from-requires : tie.Need-zero-from-requires Inv-loop μ-loop
 zero-from-requires c κs = search needs
@@ -54,7 +59,8 @@ returns-2 c =
     let h = c .before .before .before .before .before .before .before .before .before in
     let r = h .before .before .args .t1 in
     table-all r principal (h .before .if1 .left) (h .loop .inv .0) (omega arith)
-    (zeros-two (r .«principal_count») (r .«principal_formulas») (r .«principal_demarcations») (c .before .before .before .before .zero-from .ensures) (c .zero-from2 .ensures))
+    (zeros-two (r .«principal_count») (r .«principal_formulas») (r .«principal_demarcations»)
+    (c .before .before .before .before .zero-from .ensures) (c .zero-from2 .ensures))
 
 pub principals-load-spec : {M : Type 1} → statement M
 principals-load-spec =

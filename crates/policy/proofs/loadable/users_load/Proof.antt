@@ -42,8 +42,13 @@ loop-less c = search needs
 loop-again : tie.Need-loop-again Inv-loop μ-loop
 loop-again c =
     let h = c .before .before .before .before in
-    let r = h .before .before .args .t1 in
-    (fits-more (h .loop .inv .0) (c .before .user-refusal .ensures ∙ user-values r (h .loop .i) (at (r .«user_objects») (h .loop .i)) (at (r .«user_roles») (h .loop .i)) (h .loop .inv .1)), least-more r user (h .loop .i) (c .after-user .ensures), omega arith)
+    let r = h .before .before .args .t1 in (
+      fits-more (h .loop .inv .0) (c .before .user-refusal .ensures
+          ∙ user-values r (h .loop .i) (at (r .«user_objects») (h .loop .i)) (at (r .«user_roles») (h .loop .i)) (h .loop .inv .1)),
+      least-more r
+          user (h .loop .i) (c .after-user .ensures),
+      omega arith,
+    )
 
 zero-from-requires : tie.Need-zero-from-requires Inv-loop μ-loop
 zero-from-requires c κs = search needs
@@ -56,7 +61,8 @@ returns-2 c =
     let h = c .before .before .before .before .before .before .before .before .before in
     let r = h .before .before .args .t1 in
     table-all r user (h .before .if1 .left) (h .loop .inv .0) (omega arith)
-    (zeros-two (r .«user_count») (r .«user_objects») (r .«user_roles») (c .before .before .before .before .zero-from .ensures) (c .zero-from-u16 .ensures))
+    (zeros-two (r .«user_count») (r .«user_objects») (r .«user_roles») (c .before .before .before .before .zero-from .ensures)
+    (c .zero-from-u16 .ensures))
 
 pub users-load-spec : {M : Type 1} → statement M
 users-load-spec =
