@@ -20,9 +20,17 @@ use Rattle.reading.specs.Loading.{load}
 use Rattle.loading.specs.Examples.{computing}
 use Rattle.loading.specs.Crown.{crown}
 
--- what a proof by computation opens, beside what loading opens
+-- what a proof by computation opens, beside what loading opens: of the record, of the grounds, of the questions
+unfoldable computing-record : Unit {0}
+unfolding computing changed withMemo tableLoads pairsLoad loadable removed questionRefusal isEnabled
+computing-record = tt
+
+unfoldable computing-grounds : Unit {0}
+unfolding computing-record meaning trueBelow holdsOn holds demarcationHas have meets consistent allSets candidates least
+computing-grounds = tt
+
 unfoldable computing-table : Unit {0}
-unfolding computing changed withMemo tableLoads pairsLoad loadable removed meaning trueBelow holdsOn holds demarcationHas have meets consistent allSets candidates least questionRefusal isEnabled liberal strict evaluated evaluatedAll eagerly tried weighed walk memoFor newly answered eager lazy
+unfolding computing-grounds liberal strict evaluated evaluatedAll eagerly tried weighed walk memoFor newly answered eager lazy
 computing-table = tt
 
 -- a fresh load

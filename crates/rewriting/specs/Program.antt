@@ -8,6 +8,10 @@ use Rattle.reading.specs.declared.Loaded.{Loaded}
 use Rattle.reading.specs.Loading.{load}
 use Rattle.bundle.specs.Writing.{bundleOf}
 
+-- "A program reads a bundle of at most 65,536 bytes on standard input"
+abbrev pub mostBytes : ℕ
+mostBytes = 65536
+
 -- the decimal digits of n, at most d of them
 abbrev pub decimals : ℕ → ℕ → List ℕ
 decimals zero n = []
@@ -30,7 +34,7 @@ abbrev pub reported : Loaded → List ℕ
 reported l = cond (eqb (l .number) 0) (bundleOf (l .rules)) (refusedText (l .number) (l .line))
 
 unfoldable pub program : List ℕ → List ℕ
-program text = cond (ltb 65536 (length text)) tooLong (reported (load text))
+program text = cond (ltb mostBytes (length text)) tooLong (reported (load text))
 
 -- ---- bytes put at the start of a buffer
 

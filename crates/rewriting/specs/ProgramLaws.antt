@@ -20,7 +20,7 @@ use Rattle.reading.specs.Loading.{Reading, atTop, lineRefusal, afterLine, notLo
 use Rattle.bundle.specs.declared.Written.{Written}
 use Rattle.bundle.specs.Writing.{bundleOf, lengthNeeded, written, writeRefusal, bufferAfter}
 use Rattle.bundle.specs.WriterParts.{Writes}
-use Rattle.rewriting.specs.Program.{tooLong, refusedText, program, shownLength, shown}
+use Rattle.rewriting.specs.Program.{mostBytes, tooLong, refusedText, program, shownLength, shown}
 
 -- ---- there are no more lines than bytes
 
@@ -75,18 +75,18 @@ load-line t = omega (arith, read-line (lines t) atTop, lines-count t)
 -- ---- what is printed
 
 module _ (t : List ℕ) where
-  pub prints-long : 65536 < length t → tooLong ≡ program t
+  pub prints-long : mostBytes < length t → tooLong ≡ program t
   unfolding program
-  prints-long l = rw (lt-ltb 65536 (length t) l) refl
+  prints-long l = rw (lt-ltb mostBytes (length t) l) refl
 
-  module _ (short : length t ≤ 65536) where
+  module _ (short : length t ≤ mostBytes) where
     pub prints-refusal : load t .number ≢ 0 → refusedText (load t .number) (load t .line) ≡ program t
     unfolding program
-    prints-refusal h = rw (le-ltb 65536 (length t) short, ne-eqb (load t .number) 0 h) refl
+    prints-refusal h = rw (le-ltb mostBytes (length t) short, ne-eqb (load t .number) 0 h) refl
 
     pub prints-bundle : load t .number ≡ 0 → bundleOf (load t .rules) ≡ program t
     unfolding program
-    prints-bundle e = rw (le-ltb 65536 (length t) short, eq-eqb (load t .number) 0 e) refl
+    prints-bundle e = rw (le-ltb mostBytes (length t) short, eq-eqb (load t .number) 0 e) refl
 
 -- the same bytes are shown alike
 pub shown-same : {r : ℕ} {a : List ℕ} (b : List ℕ) {s t : List ℕ} → s ≡ t → (r ≡ shownLength s b) × (a ≡ shown s b)

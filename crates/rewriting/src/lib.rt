@@ -6,6 +6,9 @@ ghost use Prim.Native.Nat.{_+_, _≤_, _<_};
 ghost use lib.ListN.{length, take};
 ghost use Rattle.rewriting.specs.Program.{refusedStart, refusedText, program, shownLength, shown};
 
+// The longest input that the program takes.
+pub const MOST_BYTES: usize = 65536;
+
 // A refusal's text: so many of the bytes.
 pub struct Refusal {
     pub bytes: [u8; 16],
@@ -73,7 +76,7 @@ pub fn rewritten(input: &[u8], output: &mut [u8]) -> usize
     ensures { λ r. ⌜ (r ≡ shownLength (program (now (input .entry))) (now (output .entry)))
         × (now (output .exit) ≡ shown (program (now (input .entry))) (now (output .entry))) ⌝ }
 {
-    if 65536 < input.len() {
+    if MOST_BYTES < input.len() {
         let long = [84, 79, 79, 32, 76, 79, 78, 71, 10];
         return show(output, &long, 9);
     }

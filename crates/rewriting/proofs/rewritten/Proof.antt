@@ -13,7 +13,7 @@ use Rattle.reading.specs.Loading.{load}
 use Rattle.reading.specs.LoadingLaws.{as-loaded}
 use Rattle.bundle.specs.Writing.{bundleOf}
 use Rattle.bundle.specs.Altered.{load-number}
-use Rattle.rewriting.specs.Program.{refusedText, program}
+use Rattle.rewriting.specs.Program.{mostBytes, refusedText, program}
 use Rattle.rewriting.specs.ProgramLaws.{load-line, prints-long, prints-refusal, prints-bundle, shown-same, writes-none, writes-whole}
 use Rattle.rewriting.proofs.rewritten.Statement.{statement}
 use Rattle.rewriting.proofs.rewritten.Tie as tie
@@ -22,7 +22,7 @@ use Rattle.rewriting.proofs.rewritten.Tie as tie
 abbrev text : tie.After-load → List ℕ
 text h = h .before .before .before .before .args .input .now
 
-short : (h : tie.After-load) → length (text h) ≤ 65536
+short : (h : tie.After-load) → length (text h) ≤ mostBytes
 short h = h .before .if1 .left
 
 slice-aggregate-show : tie.Need-slice-aggregate-show
