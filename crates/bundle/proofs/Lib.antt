@@ -1,4 +1,4 @@
 pub mod Fields
 pub mod Answers
-pub mod Puts
+pub mod WrittenTables
 pub mod Whole

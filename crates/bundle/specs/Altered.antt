@@ -22,7 +22,7 @@ use Rattle.reading.specs.Loading.{Reading, atTop, misplaced, endWrong, lineRefu
 use Rattle.bundle.specs.Writing.{bundleOf}
 use Rattle.bundle.specs.FramedLaws.{Lines, lines-checked}
 use Rattle.bundle.specs.FramedLaws.Lines.{none, more}
-use Rattle.bundle.specs.FramedLaws.Checked.{bad, good}
+use Rattle.bundle.specs.FramedLaws.Checked.{refused-line, octets-line}
 use Rattle.bundle.specs.TakenLaws.{load-framed}
 use Rattle.bundle.specs.LoadWrite.{load-write}
 
@@ -67,8 +67,8 @@ end-number t = go (eqb (t .last) 0xFF) (circular (rows hierarchy (t .rules)) || 
 read-number : {ls : List Framed} → Lines ls → (t : Reading) → read t ls .number ≤ 9
 unfolding read
 read-number none t = end-number t
-read-number (more (bad l h) p) t = omega arith
-read-number (more (good {os} f) p) t =
+read-number (more (refused-line l h) p) t = omega arith
+read-number (more (octets-line {os} f) p) t =
     go (eqb (lineRefusal t (kindOf (kindOctet os)) os) 0) _ (read-number p (afterLine t (kindOf (kindOctet os)) os))
   where
     go : (x : Bool) (l : Loaded) → l .number ≤ 9

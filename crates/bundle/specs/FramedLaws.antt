@@ -7,8 +7,8 @@ use lib.ListN.{length}
 use lib.Dec.{eqb}
 use Rattle.common.specs.Lists.{at, every}
 use Rattle.octets.specs.Line.{Framed, refused, octets, total, lineOf, restOf, frame, starts, laterLines, lines, digits, textOf}
-use Rattle.octets.specs.LineLaws.{Accepted, Judged, frame-judged}
-use Rattle.octets.specs.LineLaws.Judged.{accepts, refuses}
+use Rattle.octets.specs.LineLaws.{Accepted, LineJudged, frame-judged}
+use Rattle.octets.specs.LineLaws.LineJudged.{accepts, refuses}
 use Rattle.octets.specs.WritingLaws.{Octets, octets-of-pairs, written-again}
 use Rattle.octets.specs.Damage.{isAccepted, wellFramed}
 
@@ -22,8 +22,8 @@ pub record Fine (os : List ℕ) : Type 0 where
 
 -- a line is refused with 1, 2 or 3, or has such octets
 pub data Checked : Framed → Type 0 where
-  bad : {n : ℕ} → 1 ≤ n → n ≤ 3 → Checked (refused n)
-  good : {os : List ℕ} → Fine os → Checked (octets os)
+  refused-line : {n : ℕ} → 1 ≤ n → n ≤ 3 → Checked (refused n)
+  octets-line : {os : List ℕ} → Fine os → Checked (octets os)
 
 -- lines as framing gives them
 pub data Lines : List Framed → Type 0 where
@@ -33,9 +33,9 @@ pub data Lines : List Framed → Type 0 where
 fine : {t os : List ℕ} → Accepted t os → Fine os
 fine {t} a = record { small = subst Octets (a .read) (octets-of-pairs (lineOf t) (a .are)); long = a .long; adds = a .adds }
 
-checked : {t : List ℕ} {f : Framed} → Judged t f → Checked f
-checked (accepts e a) = subst Checked (sym e) (good (fine a))
-checked (refuses e l h) = subst Checked (sym e) (bad l h)
+checked : {t : List ℕ} {f : Framed} → LineJudged t f → Checked f
+checked (accepts e a) = subst Checked (sym e) (octets-line (fine a))
+checked (refuses e l h) = subst Checked (sym e) (refused-line l h)
 
 starts-checked : (t : List ℕ) {ls : List Framed} → Lines ls → Lines (starts t ls)
 starts-checked [] p = none

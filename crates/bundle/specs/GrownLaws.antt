@@ -12,7 +12,7 @@ use Rattle.common.specs.Lists.{at, table}
 use Rattle.policy.specs.declared.Record.{Record}
 use Rattle.policy.specs.Table.{Kind, head, user, edge, formula, demarcation, hierarchy, principal, exclusion, prerequisite, method, end}
 use Rattle.policy.specs.Table.{code, isKind, kinds, count, columns, room, row, rows, blank, appended}
-use Rattle.policy.specs.TableLaws.{same-kind, Sized, count-other, columns-other, count-same, row-kept, new-row}
+use Rattle.policy.specs.TableLaws.{same-kind, ColumnLengths, count-other, columns-other, count-same, row-kept, new-row}
 use Rattle.policy.specs.TableLaws as tables
 use Rattle.policy.specs.GrowthLaws.{blank-empty}
 use Rattle.reading.specs.Body.{widths, values}
@@ -77,7 +77,7 @@ no-lines r n (j ∷ ks) c h =
 
 -- ---- a line of a kind between head and end, when there are no lines of later kinds yet
 
-module _ (k : Kind) (r : Record) (v : List ℕ) (low : 1 < code k) (high : code k < 0xFF) (s : Sized r) (few : count k r < room k)
+module _ (k : Kind) (r : Record) (v : List ℕ) (low : 1 < code k) (high : code k < 0xFF) (s : ColumnLengths r) (few : count k r < room k)
     (empty : (j : Kind) → code k < code j → count j r ≡ 0) (all : tables.values (columns k r) v 0 ≡ v) where
   -- kind k's own rows and lines
   rows-more : rows k (appended k r v) ≡ rows k r ++ (v ∷ [])

@@ -20,7 +20,7 @@ use Rattle.reading.specs.LoadingLaws.Sort.{is-head, is-end, between}
 use Rattle.bundle.specs.Writing.{lineOctets, ruleLines, withEnd, bundleOf}
 use Rattle.bundle.specs.FramedLaws.{Fine, Lines, lines-checked, octetLines, text-again}
 use Rattle.bundle.specs.FramedLaws.Lines.{none, more}
-use Rattle.bundle.specs.FramedLaws.Checked.{bad, good}
+use Rattle.bundle.specs.FramedLaws.Checked.{refused-line, octets-line}
 use Rattle.bundle.specs.BodyLaws.{line-again}
 use Rattle.bundle.specs.GrownLaws.{as-many, lines-more, lines-first}
 use Rattle.bundle.specs.TakenLaws.{read-taken, end-taken, taken-end, taken-head, load-framed}
@@ -34,18 +34,18 @@ no-length [] e = refl
 no-length (x ∷ l) e = absurd (omega arith)
 
 -- the lines read so far, `done`: their count and sum; they are the record's lines, and after the end line these with their end line
-record Held (t : Reading) (done : List (List ℕ)) : Type 0 where
+record ReadSoFar (t : Reading) (done : List (List ℕ)) : Type 0 where
   lines : t .lines ≡ length done
   sum : t .sum ≡ totals done
   kept : t .lines ≢ 0 → t .last ≢ 0xFF → ruleLines kinds (t .rules) ≡ done
   ended : t .last ≡ 0xFF → withEnd (ruleLines kinds (t .rules)) ≡ done
 
-held-top : Held atTop []
-held-top = record { lines = refl; sum = refl; kept = λ h o. absurd (h refl); ended = λ e. absurd (omega arith) }
+so-far-top : ReadSoFar atTop []
+so-far-top = record { lines = refl; sum = refl; kept = λ h o. absurd (h refl); ended = λ e. absurd (omega arith) }
 
 -- ---- one line more
 
-module _ (t : Reading) (os : List ℕ) (done : List (List ℕ)) (fine : Fine os) (s : Sound t) (h : Held t done) where
+module _ (t : Reading) (os : List ℕ) (done : List (List ℕ)) (fine : Fine os) (s : Sound t) (h : ReadSoFar t done) where
   -- the head
   first-line : Taken t head os → ruleLines kinds (appended head (t .rules) (numbers head os)) ≡ done ++ (os ∷ [])
   first-line w =
@@ -81,9 +81,9 @@ module _ (t : Reading) (os : List ℕ) (done : List (List ℕ)) (fine : Fine os)
       ∙ (λ i. done ++ (lineOctets end ((sym (h .lines) ∙ sym count) i ∷ (sym (h .sum) ∙ sym sum) i ∷ []) ∷ []))
       ∙ (λ i. done ++ (line-again end os (w .kind) (w .sized) fine i ∷ []))
 
-  held-more : (k : Kind) → lineRefusal t k os ≡ 0 → Held (afterLine t k os) (done ++ (os ∷ []))
+  so-far-more : (k : Kind) → lineRefusal t k os ≡ 0 → ReadSoFar (afterLine t k os) (done ++ (os ∷ []))
   unfolding afterLine
-  held-more k e =
+  so-far-more k e =
       record {
         lines = omega (arith, h .lines, length-append done (os ∷ []));
         sum = omega (arith, h .sum, totals-append done (os ∷ []));
@@ -109,22 +109,22 @@ module _ (t : Reading) (os : List ℕ) (done : List (List ℕ)) (fine : Fine os)
 -- ---- all lines
 
 -- the lines read, and those still to read, are the bundle's
-read-held : {ls : List Framed} → Lines ls → (t : Reading) (done : List (List ℕ)) → Sound t → Held t done → read t ls .number ≡ 0
+read-so-far : {ls : List Framed} → Lines ls → (t : Reading) (done : List (List ℕ)) → Sound t → ReadSoFar t done → read t ls .number ≡ 0
     → withEnd (ruleLines kinds (read t ls .rules)) ≡ done ++ octetLines ls
 unfolding read
-read-held none t done s h e =
+read-so-far none t done s h e =
     let (last, same) = end-taken t e in
     ap (λ (r : Record). withEnd (ruleLines kinds r)) same ∙ h .ended last ∙ sym (append-nil done)
-read-held (more (bad l u) p) t done s h e = absurd (omega arith)
-read-held (more {ls = ls} (good {os} f) p) t done s h e =
+read-so-far (more (refused-line l u) p) t done s h e = absurd (omega arith)
+read-so-far (more {ls = ls} (octets-line {os} f) p) t done s h e =
     let k = kindOf (kindOctet os) in
     let (z, q) = read-taken t os ls e in
     ap (λ (l : Loaded). withEnd (ruleLines kinds (l .rules))) q
-    ∙ read-held p (afterLine t k os) (done ++ (os ∷ [])) (sound-more t k os (taken t k os z) s) (held-more t os done f s h k z)
+    ∙ read-so-far p (afterLine t k os) (done ++ (os ∷ [])) (sound-more t k os (taken t k os z) s) (so-far-more t os done f s h k z)
     (ap (λ (l : Loaded). l .number) (sym q) ∙ e)
     ∙ append-assoc done (os ∷ []) (octetLines ls)
 
 -- THE LAW: a text that loads is the bundle of the record that it loads to
 pub load-write : (text : List ℕ) → load text .number ≡ 0 → bundleOf (load text .rules) ≡ text
 unfolding load bundleOf
-load-write text e = ap textOf (read-held (lines-checked text) atTop [] sound-top held-top e) ∙ sym (text-again text (load-framed text e))
+load-write text e = ap textOf (read-so-far (lines-checked text) atTop [] sound-top so-far-top e) ∙ sym (text-again text (load-framed text e))

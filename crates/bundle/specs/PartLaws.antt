@@ -14,7 +14,7 @@ use Rattle.policy.specs.declared.Record.{Record}
 use Rattle.policy.specs.declared.Memo.{Memo}
 use Rattle.policy.specs.Table.{Kind, head, user, edge, formula, demarcation, hierarchy, principal, exclusion, prerequisite, method, end}
 use Rattle.policy.specs.Table.{code, isKind, count, columns, room, row, emptied, blank, appended, withMemo}
-use Rattle.policy.specs.TableLaws.{Sized, same-kind, written, count-other, columns-other, count-same, columns-same}
+use Rattle.policy.specs.TableLaws.{ColumnLengths, same-kind, written, count-other, columns-other, count-same, columns-same}
 use Rattle.policy.specs.GrowthLaws.{blank-empty}
 use Rattle.policy.specs.Loadable.{loadable}
 use Rattle.policy.specs.LoadableLaws.{loadable-table, table-zero}
@@ -22,34 +22,34 @@ use Rattle.bundle.specs.CutLaws.{cut, columns-none, columns-more, column
 use Rattle.bundle.specs.CheckLaws.{Agree}
 
 -- kind j's table in p: the first n of its lines in r
-pub record First (r : Record) (j : Kind) (n : ℕ) (p : Record) : Type 0 where
+pub record FirstLines (r : Record) (j : Kind) (n : ℕ) (p : Record) : Type 0 where
   pub counted : count j p ≡ n
   pub cuts : columns j p ≡ map (cut n) (columns j r)
 
 -- the kinds whose octet is below c are whole, the others have no lines
 pub record Whole (r : Record) (c : ℕ) (p : Record) : Type 0 where
   pub memo : p .memo ≡ emptied 0 0
-  pub before : (j : Kind) → code j < c → First r j (count j r) p
-  pub after : (j : Kind) → c ≤ code j → First r j 0 p
+  pub before : (j : Kind) → code j < c → FirstLines r j (count j r) p
+  pub after : (j : Kind) → c ≤ code j → FirstLines r j 0 p
 
 -- the kinds before k are whole, k has its first i lines, the kinds after it have no lines
 pub record Part (r : Record) (k : Kind) (i : ℕ) (p : Record) : Type 0 where
   pub memo : p .memo ≡ emptied 0 0
-  pub before : (j : Kind) → code j < code k → First r j (count j r) p
-  pub here : First r k i p
-  pub after : (j : Kind) → code k < code j → First r j 0 p
+  pub before : (j : Kind) → code j < code k → FirstLines r j (count j r) p
+  pub here : FirstLines r k i p
+  pub after : (j : Kind) → code k < code j → FirstLines r j 0 p
 
-pub objects-same : {r p : Record} → First r head 1 p → p .objects ≡ r .objects
+pub objects-same : {r p : Record} → FirstLines r head 1 p → p .objects ≡ r .objects
 objects-same f = ap (λ (cs : List (List ℕ)). at (getD cs 1 []) 0) (f .cuts)
 
-first-other : {r : Record} {n : ℕ} {p : Record} (k j : Kind) (v : List ℕ) → (code k ≡ code j → ⊥) → First r j n p
-    → First r j n (appended k p v)
+first-other : {r : Record} {n : ℕ} {p : Record} (k j : Kind) (v : List ℕ) → (code k ≡ code j → ⊥) → FirstLines r j n p
+    → FirstLines r j n (appended k p v)
 first-other {p = p} k j v e f =
     let o : isKind k j ≡ false = ne-eqb (code k) (code j) e in
     record { counted = count-other k j p v o ∙ f .counted; cuts = columns-other k j p v o ∙ f .cuts }
 
-first-more : {r : Record} {i : ℕ} {p : Record} (k : Kind) → code head < code k → code k < code end → Sized r → i < room k → First r k i p
-    → First r k (suc i) (appended k p (row k i r))
+first-more : {r : Record} {i : ℕ} {p : Record} (k : Kind) → code head < code k → code k < code end → ColumnLengths r → i < room k → FirstLines r k i p
+    → FirstLines r k (suc i) (appended k p (row k i r))
 first-more {r} {i} {p} k l h s few f =
     let v = row k i r in
     record {
@@ -71,7 +71,7 @@ module _ {r : Record} {k : Kind} {i : ℕ} {p : Record} (part : Part r k i p) (l
         above = λ m l. ap (map (λ c. at c m)) (part .here .cuts) ∙ columns-at i m l (columns k r);
       }
 
-  pub part-more : code k < code end → Sized r → i < room k → Part r k (suc i) (appended k p (row k i r))
+  pub part-more : code k < code end → ColumnLengths r → i < room k → Part r k (suc i) (appended k p (row k i r))
   unfolding appended
   part-more high s few =
       record {
@@ -92,16 +92,16 @@ part-start k e w =
       after = λ j l. w .after j (omega arith);
     }
 
-first-all : {r p : Record} {k : Kind} → loadable r ≡ true → First r k (count k r) p → columns k p ≡ columns k r
+first-all : {r p : Record} {k : Kind} → loadable r ≡ true → FirstLines r k (count k r) p → columns k p ≡ columns k r
 first-all {r} {p} {k} loads f = f .cuts ∙ columns-all (count k r) (columns k r) (table-zero r k (loadable-table r loads k))
 
 pub part-end : {r p : Record} {c : ℕ} (k : Kind) → code k ≡ c → Part r k (count k r) p → Whole r (c + 1) p
 part-end {r} {p} {c} k e part =
     record { memo = part .memo; before = λ j l. go j l (decLt (code j) (code k)); after = λ j l. part .after j (omega arith) }
   where
-    go : (j : Kind) → code j < c + 1 → Dec (code j < code k) → First r j (count j r) p
+    go : (j : Kind) → code j < c + 1 → Dec (code j < code k) → FirstLines r j (count j r) p
     go j l (yes h) = part .before j h
-    go j l (no h) = subst (λ (i : Kind). First r i (count i r) p) (same-kind k j (omega arith)) (part .here)
+    go j l (no h) = subst (λ (i : Kind). FirstLines r i (count i r) p) (same-kind k j (omega arith)) (part .here)
 
 -- ---- after the head
 
@@ -119,11 +119,11 @@ blank-columns r prerequisite l = refl
 blank-columns r method l = refl
 blank-columns r end l = refl
 
-first-blank : (r : Record) → Sized r → (j : Kind) → code head < code j → First r j 0 blank
+first-blank : (r : Record) → ColumnLengths r → (j : Kind) → code head < code j → FirstLines r j 0 blank
 first-blank r s j l =
     record { counted = blank-empty j l; cuts = blank-columns r j l ∙ columns-none (room j) (columns j r) (s .long j) }
 
-pub whole-head : (r : Record) → Sized r → Whole r 2 (appended head blank (row head 0 r))
+pub whole-head : (r : Record) → ColumnLengths r → Whole r 2 (appended head blank (row head 0 r))
 unfolding appended blank
 whole-head r s =
     record {
@@ -132,7 +132,7 @@ whole-head r s =
       after = λ j l. first-other head j (row head 0 r) (λ e. omega arith) (first-blank r s j l);
     }
   where
-    each : (j : Kind) → code j < 2 → First r j (count j r) (appended head blank (row head 0 r))
+    each : (j : Kind) → code j < 2 → FirstLines r j (count j r) (appended head blank (row head 0 r))
     each head l = record { counted = refl; cuts = refl }
     each user l = absurd (omega arith)
     each edge l = absurd (omega arith)

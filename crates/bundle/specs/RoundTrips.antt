@@ -12,10 +12,9 @@ use borrow.Author.Tests.{le-ltb}
 use Rattle.common.specs.Causes.{cause, first}
 use Rattle.common.specs.Refusals.{shortBuffer, notLoadable}
 use Rattle.policy.specs.declared.Record.{Record}
-use Rattle.policy.specs.Table.{user, edge, formula, demarcation, hierarchy, principal, exclusion, prerequisite, method, emptied, withMemo}
+use Rattle.policy.specs.Table.{emptied, withMemo}
 use Rattle.policy.specs.Loadable.{loadable}
-use Rattle.policy.specs.TableLaws.{Sized, sized}
-use Rattle.policy.specs.ColumnLaws.{loadable-memo}
+use Rattle.policy.specs.MemoLaws.{memo-aside}
 use Rattle.reading.specs.declared.Loaded.{Loaded}
 use Rattle.reading.specs.Loading.{load}
 use Rattle.reading.specs.LoadingLaws.{as-loaded}
@@ -33,25 +32,14 @@ loadsTo r = record { number = 0; line = 0; rules = withMemo r (emptied 0 0) }
 -- ---- 19 means what document 01 says: a record is loadable exactly when some text loads to it, memo aside
 
 -- the same memo again is the same record
-memo-again : (r : Record) → withMemo (withMemo r (emptied 0 0)) (r .memo) ≡ r
-unfolding withMemo
-memo-again r = refl
-
-sized-memo : (r : Record) → Sized r → Sized (withMemo r (emptied 0 0))
-unfolding withMemo
-sized-memo r s =
-    sized _ (s .long user) (s .long edge) (s .long formula) (s .long demarcation) (s .long hierarchy) (s .long principal)
-    (s .long exclusion) (s .long prerequisite) (s .long method)
-
 pub loadable-exactly : (r : Record) → Typed r → (loadable r ≡ true) ↔ ((text : List ℕ) × (load text ≡ loadsTo r))
 loadable-exactly r t = (λ e. (bundleOf r, write-load r t e), back)
   where
     back : (text : List ℕ) × (load text ≡ loadsTo r) → loadable r ≡ true
     back (text, e) =
         let rules : load text .rules ≡ withMemo r (emptied 0 0) = ap (λ (l : Loaded). l .rules) e in
-        let loads = subst (λ (x : Record). loadable x ≡ true) rules (as-loaded text (ap (λ (l : Loaded). l .number) e) .loads) in
-        subst (λ (x : Record). loadable x ≡ true) (memo-again r)
-        (loadable-memo (withMemo r (emptied 0 0)) (r .memo) (sized-memo r (t .sized)) loads)
+        sym (memo-aside r (emptied 0 0))
+        ∙ subst (λ (x : Record). loadable x ≡ true) rules (as-loaded text (ap (λ (l : Loaded). l .number) e) .loads)
 
 -- ---- what the writer's contract then says
 

@@ -24,7 +24,7 @@ use Rattle.reading.specs.Loading.{Reading, atTop, misplaced, endWrong, lineRefu
 use Rattle.reading.specs.LoadingLaws.{none-first}
 use Rattle.bundle.specs.FramedLaws.{Lines, lines-checked}
 use Rattle.bundle.specs.FramedLaws.Lines.{none, more}
-use Rattle.bundle.specs.FramedLaws.Checked.{bad, good}
+use Rattle.bundle.specs.FramedLaws.Checked.{refused-line, octets-line}
 
 -- ---- one line
 
@@ -81,8 +81,8 @@ taken-head n r v e =
 read-framed : {ls : List Framed} → Lines ls → (t : Reading) → read t ls .number ≡ 0 → every isAccepted ls ≡ true
 unfolding read
 read-framed none t e = refl
-read-framed (more (bad l h) p) t e = absurd (omega arith)
-read-framed (more {ls = ls} (good {os} f) p) t e =
+read-framed (more (refused-line l h) p) t e = absurd (omega arith)
+read-framed (more {ls = ls} (octets-line {os} f) p) t e =
     read-framed p (afterLine t (kindOf (kindOctet os)) os) (ap (λ (l : Loaded). l .number) (sym (read-taken t os ls e .1)) ∙ e)
 
 -- THE LAW: a text that loads is well framed

@@ -6,7 +6,7 @@ use lib.ListN.{drop}
 use Rattle.common.specs.Lists.{at}
 use Rattle.policy.specs.declared.Record.{Record}
 use Rattle.policy.specs.Table.{Kind, row}
-use Rattle.policy.specs.TableLaws.{Sized}
+use Rattle.policy.specs.TableLaws.{ColumnLengths}
 use Rattle.reading.specs.Body.{widths}
 
 -- numbers fit into octets of these widths
@@ -15,5 +15,5 @@ Fit [] v = Unit {0}
 Fit (w ∷ ws) v = (at v 0 < 256 ^ w) × Fit ws (drop 1 v)
 
 pub record Typed (r : Record) : Type 0 where
-  pub sized : Sized r
+  pub sized : ColumnLengths r
   pub fits : (k : Kind) (i : ℕ) → Fit (widths k) (row k i r)

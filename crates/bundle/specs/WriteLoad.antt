@@ -34,9 +34,9 @@ module _ (r : Record) (loads : loadable r ≡ true) where
   text-loads : (ls : List (List ℕ)) → Lines ls → length ls ≤ rooms kinds → Come ls 0x0B (Whole r 0x0B)
       → load (textOf (withEnd ls)) ≡ record { number = 0; line = 0; rules = withMemo r (emptied 0 0) }
   unfolding load read
-  text-loads ls good few x =
-      let sum = lines-total ls good in
-      let all = lines-append ls (endLine ls ∷ []) good (line-of end (length ls ∷ totals ls ∷ []), tt) in
+  text-loads ls framed few x =
+      let sum = lines-total ls framed in
+      let all = lines-append ls (endLine ls ∷ []) framed (line-of end (length ls ∷ totals ls ∷ []), tt) in
       let ended = read-end (x .read) (omega arith) (omega arith) (x .some) (x .last) in
       ap (read atTop) (lines-text (withEnd ls) all ∙ sym (append-nil (map octets (withEnd ls)))) ∙ ended .same []
       ∙ at-end r (emptied 0 0) loads (x .to) (endLine ls) (whole-all r (x .to .rules) loads (x .rules))

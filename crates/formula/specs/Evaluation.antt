@@ -11,7 +11,7 @@ use Rattle.common.specs.Sets.{member}
 use Rattle.rows.specs.Op.{opOf}
 use Rattle.policy.specs.declared.Record.{Record}
 use Rattle.policy.specs.Table.{edge, rows}
-use Rattle.formula.specs.declared.Request.{Request}
+use Rattle.formula.specs.declared.ContextNumbers.{ContextNumbers}
 use Rattle.formula.specs.Formula.{Context, Formulas, meaning, trueBelow, formulasOf}
 
 -- v is in the set
@@ -33,7 +33,7 @@ edgesIn n labels from to = table n (λ i. at labels i ∷ at from i ∷ at to i 
 abbrev pub contextOf : ℕ → ℕ → ℕ → List (List ℕ) → Context
 contextOf roles object requestor edges = record { roles = λ a. member a roles; edges = edges; object = object; requestor = requestor }
 
-abbrev pub contextIn : Request → List ℕ → List ℕ → List ℕ → Context
+abbrev pub contextIn : ContextNumbers → List ℕ → List ℕ → List ℕ → Context
 contextIn q labels from to = contextOf (q .roles) (q .object) (q .requestor) (edgesIn (q .«edge_count») labels from to)
 
 -- formula f by its parts, at v

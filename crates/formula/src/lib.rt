@@ -20,7 +20,7 @@ use common::MOST_USERS;
 
 // What a formula is evaluated for, beside the columns: how many edges there are, the roles that the requestor holds, the object
 // and the requestor.
-struct Request {
+struct ContextNumbers {
     edge_count: usize,
     roles: u16,
     object: u8,
@@ -144,7 +144,7 @@ fn starts_to<'a, 'b, 'c>(
 // ---- formulas
 
 // Of the asked vertices those where a formula without parts is true: op 0 to 3, with its a.
-fn plain<'a>(q: Request, op: u8, left: u8, asked: &'a Vertices) -> Vertices
+fn plain<'a>(q: ContextNumbers, op: u8, left: u8, asked: &'a Vertices) -> Vertices
     requires { ⌜ op ≤ 3 ⌝ }
     ensures { λ r. ⌜ ((edges : List (List ℕ)) (b : ℕ) (part : ℕ → ℕ → Bool) →
         Among (now (asked .entry)) (meaning (contextOf (q .roles) (q .object) (q .requestor) edges) (opOf op) left b part) r) ⌝ }
@@ -165,7 +165,7 @@ fn plain<'a>(q: Request, op: u8, left: u8, asked: &'a Vertices) -> Vertices
 
 // Of the asked vertices those where formula f is true, if it is below n; else none. Its parts must be below it in turn, so that it ends.
 fn evaluate<'a, 'b>(
-    q: Request,
+    q: ContextNumbers,
     labels: &'a [u8; MOST_EDGES],
     from: &'a [u8; MOST_EDGES],
     to: &'a [u8; MOST_EDGES],
@@ -196,7 +196,7 @@ fn evaluate<'a, 'b>(
 
 // Of the asked vertices those where formula f is true, whose op is 4, 5 or 6: not a, a and b, a or b.
 fn connective<'a, 'b>(
-    q: Request,
+    q: ContextNumbers,
     labels: &'a [u8; MOST_EDGES],
     from: &'a [u8; MOST_EDGES],
     to: &'a [u8; MOST_EDGES],
@@ -228,7 +228,7 @@ fn connective<'a, 'b>(
 // Of the asked vertices those from which an edge with the label of formula f leads, from `starts` to `ends`, to one where its right
 // part is true. The part is asked only where such an edge ends.
 fn scan_edges<'a, 'b>(
-    q: Request,
+    q: ContextNumbers,
     labels: &'a [u8; MOST_EDGES],
     from: &'a [u8; MOST_EDGES],
     to: &'a [u8; MOST_EDGES],
@@ -273,7 +273,7 @@ pub fn true_at_object<'a>(
         (contextOf roles object requestor (edgesIn «edge_count» (now (labels .entry)) (now (from .entry)) (now (to .entry))))
         mostFormulas f object ⌝ }
 {
-    let q = Request {
+    let q = ContextNumbers {
         edge_count: edge_count,
         roles: roles,
         object: object,

@@ -7,7 +7,7 @@ use lib.ListN.{length}
 use Rattle.policy.specs.declared.Record.{Record}
 use Rattle.policy.specs.Table.{edge, rows, emptied, changed}
 use Rattle.policy.specs.Loadable.{loadable}
-use Rattle.policy.specs.TableLaws.{Sized}
+use Rattle.policy.specs.TableLaws.{ColumnLengths}
 use Rattle.policy.specs.Edits.{edgeIn}
 use Rattle.memo.specs.WalkLaws.{MemoLengths}
 use Rattle.access.specs.CorrectMemo.{CorrectMemo}
@@ -26,6 +26,6 @@ pub record Agrees (b : Record) (book : Book) (r : Record) : Type 0 where
   pub count : r .«edge_count» ≡ length book
   pub once : Distinct book
   pub rest : changed r [] (emptied 0 0) ≡ changed b [] (emptied 0 0)
-  pub sized : Sized r
+  pub sized : ColumnLengths r
   pub lengths : MemoLengths (r .memo)
   pub correct : CorrectMemo r (r .memo)

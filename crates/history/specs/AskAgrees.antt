@@ -11,7 +11,8 @@ use Rattle.common.specs.Refusals.{noMethod, noObject, notUser, notLoadable}
 use Rattle.policy.specs.declared.Record.{Record}
 use Rattle.policy.specs.Table.{edge, rows, emptied, changed, withMemo}
 use Rattle.policy.specs.LoadableLaws.{loadable-table}
-use Rattle.policy.specs.ColumnLaws.{loadable-memo}
+use Rattle.policy.specs.ColumnLengthLaws.{sized-memo}
+use Rattle.policy.specs.MemoLaws.{memo-aside}
 use Rattle.formula.specs.Formula.{isUser, holdsOn, holds}
 use Rattle.formula.specs.FormulaLaws.{same-edges}
 use Rattle.justification.specs.declared.Question.{Question}
@@ -24,7 +25,6 @@ use Rattle.access.specs.CorrectMemo.{numberOf, setOf, LeastAnswer}
 use Rattle.access.specs.CorrectMemoLaws.{eager-true, lazy-true}
 use Rattle.history.specs.Book.{Book, plain, askRefusal, verdict, enabledIn, ask, numberAndSet}
 use Rattle.history.specs.Agrees.{Agrees}
-use Rattle.policy.specs.SizedLaws.{sized-memo}
 
 -- ---- what stays as the bundle has it
 
@@ -80,7 +80,7 @@ module _ (b : Record) (book : Book) (r : Record) (h : Agrees b book r) where
   left-agrees q a j =
       subst (Agrees b book) (sym (j .left))
       (record {
-        loads = loadable-memo r (j .memo) (h .sized) (h .loads);
+        loads = memo-aside r (j .memo) ∙ h .loads;
         edges = h .edges;
         count = h .count;
         once = h .once;

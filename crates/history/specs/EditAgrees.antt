@@ -28,9 +28,9 @@ use Rattle.memo.specs.Memo.{known}
 use Rattle.memo.specs.WalkLaws.{MemoLengths}
 use Rattle.access.specs.CorrectMemo.{CorrectMemo}
 use Rattle.history.specs.Book.{Book, holdsEdge, add, remove, addRefusal, removeRefusal, bookAfterCall}
-use Rattle.policy.specs.TableLaws.{Sized}
+use Rattle.policy.specs.TableLaws.{ColumnLengths}
 use Rattle.policy.specs.LoadableLaws.{table-few, loadable-table}
-use Rattle.policy.specs.SizedLaws.{sized-changed}
+use Rattle.policy.specs.ColumnLengthLaws.{sized-changed}
 use Rattle.history.specs.Agrees.{Distinct, none, more, Agrees}
 
 -- ---- edges with one more, and with one less
@@ -172,7 +172,7 @@ module _ (b : Record) (book : Book) (r : Record) (h : Agrees b book r) where
         count = ap (λ (q : Record). q .«edge_count») is ∙ count-changed r es (emptied 0 0) ∙ count;
         once = once;
         rest = ap (λ (q : Record). changed q [] (emptied 0 0)) is ∙ rest-changed r es [] (emptied 0 0) ∙ h .rest;
-        sized = subst⁻¹ Sized is (sized-changed r es (emptied 0 0) small (h .sized));
+        sized = subst⁻¹ ColumnLengths is (sized-changed r es (emptied 0 0) small (h .sized));
         lengths = subst⁻¹ MemoLengths memo emptied-lengths;
         correct = subst⁻¹ (CorrectMemo s) memo (emptied-correct s);
       }

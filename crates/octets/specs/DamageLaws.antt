@@ -13,8 +13,8 @@ use borrow.Author.Tests.{eqb-true, le-leb}
 use Rattle.common.specs.Lists.{at, any, every}
 use Rattle.common.specs.BoolLaws.{and-cases, or-right}
 use Rattle.octets.specs.Line.{digitValue, lineOf, restOf, ended, octetsOf, total, Framed, refused, octets, frame, lines}
-use Rattle.octets.specs.LineLaws.{digit-is, Pairs, pairs-even, Accepted, Judged, frame-judged, lines-cons}
-use Rattle.octets.specs.LineLaws.Judged.{accepts, refuses}
+use Rattle.octets.specs.LineLaws.{digit-is, Pairs, pairs-even, Accepted, LineJudged, frame-judged, lines-cons}
+use Rattle.octets.specs.LineLaws.LineJudged.{accepts, refuses}
 use Rattle.octets.specs.Damage.{OneAltered, isAccepted, isRefused, wellFramed, hasRefusedLine}
 use Rattle.octets.specs.Damage.OneAltered.{this, next}
 
@@ -143,7 +143,7 @@ caught {t′ = t′} (line a w) o =
     (λ p. later (filled o) (caught w (p .1)))
     (detected (change o (a .end)) (line-framed a) (pairs-first w))
   where
-    refusal : (LineFramed (lineOf t′) → ⊥) → Judged t′ (frame t′) → Refused t′
+    refusal : (LineFramed (lineOf t′) → ⊥) → LineJudged t′ (frame t′) → Refused t′
     refusal h (accepts f b) = absurd (h (line-framed b))
     refusal h (refuses f l k) = here (filled o) l k f
 
@@ -175,7 +175,7 @@ whole-first n (b ∷ t) ih l e =
     let h = and-cases (isAccepted (frame (b ∷ t))) _ (subst (λ (ls : List Framed). every isAccepted ls ≡ true) (lines-cons (b ∷ t) s) e) in
     go (frame-judged (b ∷ t)) (h .0) (ih (restOf (b ∷ t)) (omega arith) (h .1))
   where
-    go : Judged (b ∷ t) (frame (b ∷ t)) → isAccepted (frame (b ∷ t)) ≡ true → Whole (restOf (b ∷ t)) → Whole (b ∷ t)
+    go : LineJudged (b ∷ t) (frame (b ∷ t)) → isAccepted (frame (b ∷ t)) ≡ true → Whole (restOf (b ∷ t)) → Whole (b ∷ t)
     go (accepts f a) h w = line a w
     go (refuses f j k) h w = absurd (false≢true (sym (ap isAccepted f) ∙ h))
 

@@ -113,17 +113,17 @@ passed t x y z =
     record { end = p .0; are = pairs-are (lineOf t) (q .1); read = refl; long = eqb-true _ _ y; adds = eqb-true _ _ z }
 
 -- what a line comes to
-pub data Judged (t : List ℕ) (f : Framed) : Type 0 where
-  accepts : {os : List ℕ} → f ≡ octets os → Accepted t os → Judged t f
-  refuses : {k : ℕ} → f ≡ refused k → 1 ≤ k → k ≤ 3 → Judged t f
+pub data LineJudged (t : List ℕ) (f : Framed) : Type 0 where
+  accepts : {os : List ℕ} → f ≡ octets os → Accepted t os → LineJudged t f
+  refuses : {k : ℕ} → f ≡ refused k → 1 ≤ k → k ≤ 3 → LineJudged t f
 
 -- a line is accepted, or refused with 1, 2 or 3
-pub frame-judged : (t : List ℕ) → Judged t (frame t)
+pub frame-judged : (t : List ℕ) → LineJudged t (frame t)
 unfolding frame
 frame-judged t = go (test₁ t) (test₂ t) (test₃ t) refl refl refl
   where
     go : (x y z : Bool) → test₁ t ≡ x → test₂ t ≡ y → test₃ t ≡ z
-        → Judged t (cond x (cond y (cond z (octets (octetsOf (lineOf t))) (refused 3)) (refused 2)) (refused 1))
+        → LineJudged t (cond x (cond y (cond z (octets (octetsOf (lineOf t))) (refused 3)) (refused 2)) (refused 1))
     go true true true x y z = accepts refl (passed t x y z)
     go true true false x y z = refuses refl (omega arith) (omega arith)
     go true false c x y z = refuses refl (omega arith) (omega arith)
@@ -132,14 +132,14 @@ frame-judged t = go (test₁ t) (test₂ t) (test₃ t) refl refl refl
 pub accepted : {t os : List ℕ} → frame t ≡ octets os → Accepted t os
 accepted {t} {os} e = go (frame-judged t)
   where
-    go : Judged t (frame t) → Accepted t os
+    go : LineJudged t (frame t) → Accepted t os
     go (accepts {os = ps} f a) = let q : ps ≡ os = cc in subst (Accepted t) q a
     go (refuses f l h) = let z : _≡_ {A = ℕ} 0 1 = cc in absurd (omega arith)
 
 pub refused-is : (t : List ℕ) {k : ℕ} → frame t ≡ refused k → (1 ≤ k) × (k ≤ 3)
 refused-is t {k} e = go (frame-judged t)
   where
-    go : Judged t (frame t) → (1 ≤ k) × (k ≤ 3)
+    go : LineJudged t (frame t) → (1 ≤ k) × (k ≤ 3)
     go (accepts f a) = let z : _≡_ {A = ℕ} 0 1 = cc in absurd (omega arith)
     go (refuses {k = j} f l h) = let q : j ≡ k = cc in (omega arith, omega arith)
 

@@ -16,15 +16,15 @@ use Rattle.policy.specs.Loadable.{rowsLoad, zeroFrom, tableLoads}
 -- ---- lines one by one
 
 -- whether the lines below i are ones that loading takes
-pub record Fits (r : Record) (k : Kind) (fit : Bool) (i : ℕ) : Type 0 where
+pub record RowsAccepted (r : Record) (k : Kind) (fit : Bool) (i : ℕ) : Type 0 where
   pub fits : fit ≡ rowsLoad r k i
 
-pub fits-none : {r : Record} {k : Kind} → Fits r k true 0
-fits-none = record { fits = refl }
+pub accepted-none : {r : Record} {k : Kind} → RowsAccepted r k true 0
+accepted-none = record { fits = refl }
 
-pub fits-more : {r : Record} {k : Kind} {fit : Bool} {i : ℕ} → Fits r k fit i → {number : ℕ} → number ≡ rowRefusal k i r (row k i r)
-    → Fits r k (fit && eqb number 0) (i + 1)
-fits-more {r} {k} {fit} {i} g e =
+pub accepted-more : {r : Record} {k : Kind} {fit : Bool} {i : ℕ} → RowsAccepted r k fit i → {number : ℕ} → number ≡ rowRefusal k i r (row k i r)
+    → RowsAccepted r k (fit && eqb number 0) (i + 1)
+accepted-more {r} {k} {fit} {i} g e =
     record {
       fits = (λ j. g .fits j && eqb (e j) 0)
           ∙ sym (every-more (λ x. eqb (rowRefusal k x r (row k x r)) 0) i (λ x. x))
@@ -42,16 +42,16 @@ module _ (r : Record) (k : Kind) where
   table-over l = rw (lt-leb (count k r) (room k) l)
 
   -- all lines gone through, and the unused places
-  pub table-all : {fit zeros : Bool} {i : ℕ} → count k r ≤ room k → Fits r k fit i → i ≡ count k r
+  pub table-all : {fit zeros : Bool} {i : ℕ} → count k r ≤ room k → RowsAccepted r k fit i → i ≡ count k r
       → zeros ≡ every (zeroFrom (count k r)) (columns k r) → fit && zeros ≡ tableLoads r k
   unfolding tableLoads
   table-all l g all f = rw (le-leb (count k r) (room k) l) (λ j. (g .fits ∙ ap (rowsLoad r k) all) j && f j)
 
 -- ---- demarcations: every line up to the limit is one that loading takes
 
-pub demarcation-rows : (r : Record) (n : ℕ) → n ≤ 20 → Fits r demarcation true n
+pub demarcation-rows : (r : Record) (n : ℕ) → n ≤ 20 → RowsAccepted r demarcation true n
 unfolding rowRefusal rowCauses inRange
-demarcation-rows r zero l = fits-none
+demarcation-rows r zero l = accepted-none
 demarcation-rows r (suc n) l =
-    subst (Fits r demarcation true) (add-one n)
-    (fits-more (demarcation-rows r n (omega arith)) {number = 0} (rw (lt-leb 20 n (let h : n < 20 = omega arith in h))))
+    subst (RowsAccepted r demarcation true) (add-one n)
+    (accepted-more (demarcation-rows r n (omega arith)) {number = 0} (rw (lt-leb 20 n (let h : n < 20 = omega arith in h))))

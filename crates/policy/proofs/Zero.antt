@@ -11,14 +11,14 @@ use Rattle.common.specs.BoolLaws.{and-true}
 use Rattle.policy.specs.Loadable.{zeroFrom}
 
 -- the places from n to i have been found zero or not
-pub record Found (c : List ℕ) (n : ℕ) (zero : Bool) (i : ℕ) : Type 0 where
+pub record ZerosTested (c : List ℕ) (n : ℕ) (zero : Bool) (i : ℕ) : Type 0 where
   pub same : zeroFrom n c ≡ (zero && zeroFrom i c)
 
-pub found-none : {c : List ℕ} {n : ℕ} → Found c n true n
-found-none = record { same = refl }
+pub tested-none : {c : List ℕ} {n : ℕ} → ZerosTested c n true n
+tested-none = record { same = refl }
 
-pub found-more : {c : List ℕ} {n i : ℕ} {zero : Bool} → Found c n zero i → i < length c → Found c n (zero && eqb (at c i) 0) (i + 1)
-found-more {c} {n} {i} {zero} f l =
+pub tested-more : {c : List ℕ} {n i : ℕ} {zero : Bool} → ZerosTested c n zero i → i < length c → ZerosTested c n (zero && eqb (at c i) 0) (i + 1)
+tested-more {c} {n} {i} {zero} f l =
     record {
       same = f .same ∙ ap (λ (d : List ℕ). zero && every (λ x. eqb x 0) d) (drop-one c i l) ∙ go zero (eqb (at c i) 0) (zeroFrom (i + 1)
           c);
@@ -28,8 +28,8 @@ found-more {c} {n} {i} {zero} f l =
     go true y z = refl
     go false y z = refl
 
-pub found-end : {c : List ℕ} {n i : ℕ} {zero : Bool} → Found c n zero i → length c ≤ i → zero ≡ zeroFrom n c
-found-end {c} {n} {i} {zero} f l =
+pub tested-end : {c : List ℕ} {n i : ℕ} {zero : Bool} → ZerosTested c n zero i → length c ≤ i → zero ≡ zeroFrom n c
+tested-end {c} {n} {i} {zero} f l =
     sym (f .same ∙ ap (λ (d : List ℕ). zero && every (λ x. eqb x 0) d) (drop-of-length-le c l) ∙ and-true zero)
 
 -- ---- several columns

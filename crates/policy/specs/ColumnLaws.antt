@@ -1,6 +1,6 @@
 -- The edges' columns of a loadable record are those of its edges: given its own edges again, it is the same record. So the memo may be any.
 use Prim.Native.Nat.{ℕ, _-_, _≤_}
-use mathlib.Core.Path.{_≡_, refl, sym, _∙_, ap, subst}
+use mathlib.Core.Path.{_≡_, refl, sym, _∙_, ap}
 use mathlib.Core.Bool.{true}
 use mathlib.Core.List.{List, [], _∷_, _++_, map}
 use native.Mathlib.Omega.{arith}
@@ -16,9 +16,7 @@ use Rattle.policy.specs.declared.Memo.{Memo}
 use Rattle.policy.specs.Table.{edge, row, rows, column, withEdges, changed, withMemo}
 use Rattle.policy.specs.Loadable.{zeroFrom, loadable}
 use Rattle.policy.specs.LoadableLaws.{loadable-table, table-few, table-zero}
-use Rattle.policy.specs.TableLaws.{Sized}
-use Rattle.policy.specs.EdgeLaws.{loadable-rising}
-use Rattle.policy.specs.ChangedLaws.{loadable-changed}
+use Rattle.policy.specs.TableLaws.{ColumnLengths}
 
 zeros : (c : List ℕ) → every (λ x. eqb x 0) c ≡ true → c ≡ replicate (length c) 0
 zeros [] e = refl
@@ -55,7 +53,7 @@ module _ (r : Record) (loads : loadable r ≡ true) where
   targets-column size = column-of (r .«edge_count») 2 _ (r .«edge_targets») (λ i. refl) size few (zero-parts .2)
 
 -- a loadable record with its own edges again: only the memo is another
-pub own-edges : (r : Record) (m : Memo) → Sized r → loadable r ≡ true → changed r (rows edge r) m ≡ withMemo r m
+pub own-edges : (r : Record) (m : Memo) → ColumnLengths r → loadable r ≡ true → changed r (rows edge r) m ≡ withMemo r m
 unfolding changed withMemo
 own-edges r m s loads =
     let n = length-table (r .«edge_count») (λ i. row edge i r) in
@@ -63,10 +61,3 @@ own-edges r m s loads =
     let b = sources-column r loads (s .long edge .1 .0) in
     let c = targets-column r loads (s .long edge .1 .1 .0) in
     sym (λ j. withEdges r (sym n j) (a j) (b j) (c j) m)
-
--- loadable is a matter of the rules: the memo may be any
-pub loadable-memo : (r : Record) (m : Memo) → Sized r → loadable r ≡ true → loadable (withMemo r m) ≡ true
-loadable-memo r m s loads =
-    subst (λ (x : Record). loadable x ≡ true) (own-edges r m s loads)
-    (loadable-changed r (rows edge r) m loads (loadable-rising r loads)
-    (let n = length-table (r .«edge_count») (λ i. row edge i r) in let l = few r loads in omega arith))

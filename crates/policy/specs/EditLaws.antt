@@ -18,7 +18,7 @@ use Rattle.policy.specs.Loadable.{loadable}
 use Rattle.policy.specs.LoadableLaws.{loadable-table, loadable-objects, table-few}
 use Rattle.policy.specs.EdgeLaws.{Rising, loadable-rising, inserted-length, inserted-in, inserted-rising, without-length}
 use Rattle.policy.specs.EdgeLaws.{without-inserted, without-rising}
-use Rattle.policy.specs.TableLaws.{Sized}
+use Rattle.policy.specs.TableLaws.{ColumnLengths}
 use Rattle.policy.specs.ChangedLaws.{rows-changed, loadable-changed}
 use Rattle.policy.specs.ColumnLaws.{own-edges}
 use Rattle.policy.specs.Edits.{edgeIn, inserted, without, edited, addRefusal, removeRefusal, added, removed}
@@ -142,9 +142,9 @@ objects-changed : (r : Record) (es : List (List ℕ)) (m : Memo) → changed r e
 unfolding changed
 objects-changed r es m = refl
 
--- a new edge added and removed: the same rules, and an emptied memo (the columns have the lengths of the record's arrays: `Sized`)
+-- a new edge added and removed: the same rules, and an emptied memo (the columns have the lengths of the record's arrays: `ColumnLengths`)
 module _ (r : Record) (l x y : ℕ) where
-  pub added-removed : Sized r → added r l x y .number ≡ 0
+  pub added-removed : ColumnLengths r → added r l x y .number ≡ 0
       → removed (added r l x y .rules) l x y ≡ record { number = 0; rules = withMemo r (emptied 0 0) }
   added-removed sized accepted =
       let s = added r l x y .rules in

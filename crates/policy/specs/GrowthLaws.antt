@@ -18,14 +18,14 @@ use Rattle.policy.specs.RowLaws.{passed}
 use Rattle.policy.specs.Loadable.{tableLoads}
 use Rattle.policy.specs.LoadableLaws.{head-some}
 use Rattle.policy.specs.RoomLaws.{room-left}
-use Rattle.policy.specs.TableLaws.{same-kind, Sized, count-other, columns-other, table-kept, table-more, blank-loads}
+use Rattle.policy.specs.TableLaws.{same-kind, ColumnLengths, count-other, columns-other, table-kept, table-more, blank-loads}
 
 -- a table without lines, of another kind than k, is the same after a line of kind k
 table-empty : (k j : Kind) (r : Record) (v : List ℕ) → isKind k j ≡ false → count j r ≡ 0 → tableLoads (appended k r v) j ≡ tableLoads r j
 unfolding tableLoads
 table-empty k j r v e z = rw (count-other k j r v e, columns-other k j r v e, z)
 
-module _ (k : Kind) (r : Record) (v : List ℕ) (low : 1 < code k) (high : code k < 0xFF) (s : Sized r)
+module _ (k : Kind) (r : Record) (v : List ℕ) (low : 1 < code k) (high : code k < 0xFF) (s : ColumnLengths r)
     (loads : (j : Kind) → tableLoads r j ≡ true)
     (empty : (j : Kind) → code k < code j → count j r ≡ 0) (passes : rowRefusal k (count k r) r v ≡ 0) where
   -- THE LAW for a line of a kind other than head and end, when there are no lines of later kinds yet

@@ -16,7 +16,7 @@ use Rattle.policy.specs.declared.Record.{Record}
 use Rattle.policy.specs.Table.{formula, count, appended}
 use Rattle.rows.specs.Op.{Op, opOf, heightOf}
 use Rattle.policy.specs.Height.{height}
-use Rattle.policy.specs.TableLaws.{Sized, height-kept}
+use Rattle.policy.specs.TableLaws.{ColumnLengths, height-kept}
 
 -- the heights of the formulas below i
 pub record Heights (r : Record) (heights : List ℕ) (i : ℕ) : Type 0 where
@@ -85,7 +85,7 @@ module _ {r : Record} {heights : List ℕ} {i : ℕ} (h : Heights r heights i) w
 pub heights-start : (r : Record) → count formula r ≡ 0 → Heights r (replicate mostFormulas 0) (count formula r)
 heights-start r e = subst (Heights r (replicate mostFormulas 0)) (sym e) (heights-none r)
 
-pub heights-appended : {r : Record} {heights : List ℕ} (op a b : ℕ) {x : ℕ} → Sized r → count formula r < mostFormulas
+pub heights-appended : {r : Record} {heights : List ℕ} (op a b : ℕ) {x : ℕ} → ColumnLengths r → count formula r < mostFormulas
     → Heights r heights (count formula r)
     → x ≡ heightOf (opOf op) a b (at heights)
     → Heights (appended formula r (op ∷ a ∷ b ∷ [])) (set heights (count formula r) x) (count formula r + 1)

@@ -16,5 +16,5 @@ pub mod ChangedLaws
 pub mod ColumnLaws
 pub mod EditLaws
 pub mod NamedLaws
-pub mod SizedLaws
+pub mod ColumnLengthLaws
 pub mod MemoLaws

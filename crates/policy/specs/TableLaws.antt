@@ -65,7 +65,7 @@ Long m [] = Unit {0}
 Long m (c ∷ cs) = (length c ≡ m) × Long m cs
 
 -- every column of every table is as long as the table has room
-pub record Sized (r : Record) : Type 0 where
+pub record ColumnLengths (r : Record) : Type 0 where
   pub long : (k : Kind) → Long (room k) (columns k r)
 
 -- made of the lengths, kind by kind: of the edges' columns (labels, (sources, (targets, tt)))
@@ -79,7 +79,7 @@ pub sized : (r : Record)
     → Long (room exclusion) (columns exclusion r)
     → Long (room prerequisite) (columns prerequisite r)
     → Long (room method) (columns method r)
-    → Sized r
+    → ColumnLengths r
 sized r u e f d h p x q m = record { long = each }
   where
     each : (k : Kind) → Long (room k) (columns k r)
@@ -95,13 +95,13 @@ sized r u e f d h p x q m = record { long = each }
     each method = m
     each end = tt
 
-pub sized-blank : Sized blank
+pub sized-blank : ColumnLengths blank
 unfolding blank
 sized-blank =
     sized blank (refl, (refl, tt)) (refl, (refl, (refl, tt))) (refl, (refl, (refl, tt))) (refl, tt)
     (refl, (refl, tt)) (refl, (refl, tt)) (refl, (refl, tt)) (refl, (refl, tt)) (refl, (refl, tt))
 
-pub sized-appended : (k : Kind) {r : Record} (v : List ℕ) → Sized r → Sized (appended k r v)
+pub sized-appended : (k : Kind) {r : Record} (v : List ℕ) → ColumnLengths r → ColumnLengths (appended k r v)
 unfolding appended
 sized-appended k {r} v s =
     sized (appended k r v)
@@ -310,7 +310,7 @@ refusal-values prerequisite n r v = refl
 refusal-values method n r v = refl
 refusal-values end n r v = refl
 
-module _ (k : Kind) (r : Record) (v : List ℕ) (l : code head < code k) (h : code k < code end) (s : Sized r) (few : count k r < room k)
+module _ (k : Kind) (r : Record) (v : List ℕ) (l : code head < code k) (h : code k < code end) (s : ColumnLengths r) (few : count k r < room k)
   where
     -- the line at the count is v, and the check at its place is v's
     pub new-row : row k (count k r) (appended k r v) ≡ values (columns k r) v 0
@@ -350,7 +350,7 @@ key-values method r v = refl
 key-values end r v = refl
 
 -- the least key that may follow the new line
-pub least-appended : (k : Kind) (r : Record) (v : List ℕ) → code head < code k → code k < code end → Sized r → count k r < room k
+pub least-appended : (k : Kind) (r : Record) (v : List ℕ) → code head < code k → code k < code end → ColumnLengths r → count k r < room k
     → minimumKey k (count k (appended k r v)) (appended k r v) ≡ key k v + 1
 least-appended k r v l h s few =
     ap (λ (n : ℕ). minimumKey k n (appended k r v)) (count-same k r v l h ∙ add-one (count k r))

@@ -20,7 +20,7 @@ use Rattle.policy.specs.Table.{head, user, edge, formula, demarcation, hierarch
 use Rattle.policy.specs.Rows.{rowCauses, rowRefusal}
 use Rattle.policy.specs.Loadable.{tableLoads, loadable}
 use Rattle.policy.specs.LoadableLaws.{loadable-from}
-use Rattle.policy.specs.TableLaws.{Sized, blank-loads, sized-blank, sized-appended, count-other}
+use Rattle.policy.specs.TableLaws.{ColumnLengths, blank-loads, sized-blank, sized-appended, count-other}
 use Rattle.policy.specs.GrowthLaws.{tables-more, tables-first, blank-empty}
 use Rattle.reading.specs.declared.Loaded.{Loaded}
 use Rattle.reading.specs.Body.{widths, numbers}
@@ -79,7 +79,7 @@ taken t k os e =
 
 -- before the first line, or: every table loads, and there are no lines of a kind above the last one's
 pub record Sound (t : Reading) : Type 0 where
-  pub sized : Sized (t .rules)
+  pub sized : ColumnLengths (t .rules)
   pub memo : t .rules .memo ≡ emptied 0 0
   pub top : t .lines ≡ 0 → t ≡ atTop
   pub loads : t .lines ≢ 0 → (j : Kind) → tableLoads (t .rules) j ≡ true
@@ -157,7 +157,7 @@ sound-more t k os w s =
 pub record AsLoaded (r : Record) : Type 0 where
   pub loads : loadable r ≡ true
   pub memo : r .memo ≡ emptied 0 0
-  pub sized : Sized r
+  pub sized : ColumnLengths r
 
 -- of the answer of loading
 abbrev Gives : Loaded → Type 0

@@ -12,7 +12,7 @@ use Rattle.octets.specs.Line.{Framed, refused, octets, kindOctet, total, frame,
 use Rattle.policy.specs.declared.Record.{Record}
 use Rattle.policy.specs.Table.{Kind, user, hierarchy, prerequisite, code, count, rows, kindOf}
 use Rattle.policy.specs.LinesBefore.{linesBefore, following}
-use Rattle.policy.specs.TableLaws.{Sized}
+use Rattle.policy.specs.TableLaws.{ColumnLengths}
 use Rattle.policy.specs.Loadable.{tableLoads}
 use Rattle.lines.specs.declared.Cursor.{Cursor}
 use Rattle.lines.specs.Judging.{mostLineSum, TableKind}
@@ -55,7 +55,7 @@ pub record Begun (most : ℕ) (s : Stage) : Type 0 where
   pub some : 1 ≤ s .cursor .lines
   pub few : s .cursor .lines ≤ most
   pub sum : s .cursor .sum ≤ mostLineSum * s .cursor .lines
-  pub sized : Sized (s .rules)
+  pub sized : ColumnLengths (s .rules)
   pub loads : (j : Kind) → tableLoads (s .rules) j ≡ true
 
 -- the lines of the kinds before k have been read: there is none of a kind from k on yet, and a line of a kind before k would be misplaced

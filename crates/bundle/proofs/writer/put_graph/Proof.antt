@@ -10,8 +10,8 @@ use Rattle.writing.specs.Drafts.{Put}
 use Rattle.writing.specs.DraftLaws.{put-none, put-length}
 use Rattle.bundle.specs.Writing.{tableLines, ruleLines}
 use Rattle.bundle.specs.WriterParts.{start, Room}
-use Rattle.bundle.proofs.Puts.{room-table, room-rest, put-table, within, put-lines, head-line, user-lines, edge-lines, formula-lines}
-use Rattle.bundle.proofs.Puts.{demarcation-lines}
+use Rattle.bundle.proofs.WrittenTables.{room-table, room-rest, put-table, within, put-lines, head-line, user-lines, edge-lines, formula-lines}
+use Rattle.bundle.proofs.WrittenTables.{demarcation-lines}
 use Rattle.bundle.proofs.writer.put_graph.Statement.{statement}
 use Rattle.bundle.proofs.writer.put_graph.Tie as tie
 

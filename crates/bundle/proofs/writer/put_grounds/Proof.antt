@@ -9,8 +9,8 @@ use Rattle.writing.specs.Drafts.{Put}
 use Rattle.writing.specs.DraftLaws.{put-none, put-length}
 use Rattle.bundle.specs.Writing.{tableLines, ruleLines}
 use Rattle.bundle.specs.WriterParts.{Room}
-use Rattle.bundle.proofs.Puts.{room-table, room-rest, put-table, within, put-lines, hierarchy-lines, principal-lines}
-use Rattle.bundle.proofs.Puts.{exclusion-lines, prerequisite-lines, method-lines}
+use Rattle.bundle.proofs.WrittenTables.{room-table, room-rest, put-table, within, put-lines, hierarchy-lines, principal-lines}
+use Rattle.bundle.proofs.WrittenTables.{exclusion-lines, prerequisite-lines, method-lines}
 use Rattle.bundle.proofs.writer.put_grounds.Statement.{statement}
 use Rattle.bundle.proofs.writer.put_grounds.Tie as tie
 

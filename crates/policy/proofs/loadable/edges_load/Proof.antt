@@ -7,13 +7,13 @@ use Rattle.policy.specs.Table.{edge}
 use Rattle.policy.specs.Rows.{minimumKey}
 use Rattle.policy.specs.RowLaws.{edge-values}
 use Rattle.policy.proofs.Zero.{zeros-three}
-use Rattle.policy.proofs.Tables.{Fits, fits-none, fits-more, least-more, table-over, table-all}
+use Rattle.policy.proofs.Tables.{RowsAccepted, accepted-none, accepted-more, least-more, table-over, table-all}
 use borrow.Author.Needs.{needs}
 use Rattle.policy.proofs.loadable.edges_load.Statement.{statement}
 use Rattle.policy.proofs.loadable.edges_load.Tie as tie
 
 abbrev Inv-loop : tie.InvT-loop
-Inv-loop rules n fit₀ least₀ i₀ fit least i = Fits rules edge fit i × (least ≡ minimumKey edge i rules) × (i ≤ n)
+Inv-loop rules n fit₀ least₀ i₀ fit least i = RowsAccepted rules edge fit i × (least ≡ minimumKey edge i rules) × (i ≤ n)
 
 abbrev μ-loop : tie.MeasureT-loop
 μ-loop rules n fit₀ least₀ i₀ fit least i = n - i
@@ -22,7 +22,7 @@ returns : tie.Need-returns Inv-loop μ-loop
 returns c = table-over _ edge (c .if1 .taken)
 
 loop-holds : tie.Need-loop-holds Inv-loop μ-loop
-loop-holds c = (fits-none, refl, omega arith)
+loop-holds c = (accepted-none, refl, omega arith)
 
 element-copy-out-label : tie.Need-element-copy-out-label Inv-loop μ-loop
 element-copy-out-label c = search needs
@@ -49,7 +49,7 @@ loop-again : tie.Need-loop-again Inv-loop μ-loop
 loop-again c =
     let h = c .before .before .before .before .before .before in
     let r = h .before .before .args .t1 in (
-      fits-more (h .loop .inv .0) (c .before .edge-refusal .ensures
+      accepted-more (h .loop .inv .0) (c .before .edge-refusal .ensures
           ∙ edge-values r (h .loop .i) (at (r .«edge_labels») (h .loop .i)) (at (r .«edge_sources») (h .loop .i))
           (at (r .«edge_targets») (h .loop .i)) (h .loop .inv .1)),
       least-more r edge (h .loop .i) (c .after-edge .ensures),

@@ -7,13 +7,13 @@ use Rattle.policy.specs.Table.{formula}
 use Rattle.policy.specs.RowLaws.{formula-values}
 use Rattle.policy.specs.HeightLaws.{Heights, heights-none, heights-low, height-here, heights-more}
 use Rattle.policy.proofs.Zero.{zeros-three}
-use Rattle.policy.proofs.Tables.{Fits, fits-none, fits-more, table-over, table-all}
+use Rattle.policy.proofs.Tables.{RowsAccepted, accepted-none, accepted-more, table-over, table-all}
 use borrow.Author.Needs.{needs}
 use Rattle.policy.proofs.loadable.formulas_load.Statement.{statement}
 use Rattle.policy.proofs.loadable.formulas_load.Tie as tie
 
 abbrev Inv-loop : tie.InvT-loop
-Inv-loop rules n heights₀ fit₀ i₀ heights fit i = Fits rules formula fit i × Heights rules heights i × (i ≤ n)
+Inv-loop rules n heights₀ fit₀ i₀ heights fit i = RowsAccepted rules formula fit i × Heights rules heights i × (i ≤ n)
 
 abbrev μ-loop : tie.MeasureT-loop
 μ-loop rules n heights₀ fit₀ i₀ heights fit i = n - i
@@ -22,7 +22,7 @@ returns : tie.Need-returns Inv-loop μ-loop
 returns c = table-over _ formula (c .if1 .taken)
 
 loop-holds : tie.Need-loop-holds Inv-loop μ-loop
-loop-holds c = (fits-none, heights-none _, omega arith)
+loop-holds c = (accepted-none, heights-none _, omega arith)
 
 element-copy-out-op : tie.Need-element-copy-out-op Inv-loop μ-loop
 element-copy-out-op c = search needs
@@ -54,7 +54,7 @@ loop-again c =
     let r = h .before .before .args .t1 in
     let x = height-here (h .loop .inv .1) (at (r .«formula_ops») (h .loop .i)) (at (r .«formula_lefts») (h .loop .i))
     (at (r .«formula_rights») (h .loop .i)) (c .before .formula-height .ensures) in (
-      fits-more (h .loop .inv .0) (c .formula-refusal .ensures
+      accepted-more (h .loop .inv .0) (c .formula-refusal .ensures
           ∙ formula-values r (h .loop .i) (at (r .«formula_ops») (h .loop .i)) (at (r .«formula_lefts») (h .loop .i))
           (at (r .«formula_rights») (h .loop .i)) x),
       heights-more (h .loop .inv .1) (omega arith) x,

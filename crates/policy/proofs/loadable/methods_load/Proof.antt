@@ -6,13 +6,13 @@ use Rattle.common.specs.Lists.{at}
 use Rattle.policy.specs.Table.{method}
 use Rattle.policy.specs.RowLaws.{method-values}
 use Rattle.policy.proofs.Zero.{zeros-two}
-use Rattle.policy.proofs.Tables.{Fits, fits-none, fits-more, table-over, table-all}
+use Rattle.policy.proofs.Tables.{RowsAccepted, accepted-none, accepted-more, table-over, table-all}
 use borrow.Author.Needs.{needs}
 use Rattle.policy.proofs.loadable.methods_load.Statement.{statement}
 use Rattle.policy.proofs.loadable.methods_load.Tie as tie
 
 abbrev Inv-loop : tie.InvT-loop
-Inv-loop rules n fit₀ i₀ fit i = Fits rules method fit i × (i ≤ n)
+Inv-loop rules n fit₀ i₀ fit i = RowsAccepted rules method fit i × (i ≤ n)
 
 abbrev μ-loop : tie.MeasureT-loop
 μ-loop rules n fit₀ i₀ fit i = n - i
@@ -21,7 +21,7 @@ returns : tie.Need-returns Inv-loop μ-loop
 returns c = table-over _ method (c .if1 .taken)
 
 loop-holds : tie.Need-loop-holds Inv-loop μ-loop
-loop-holds c = (fits-none, omega arith)
+loop-holds c = (accepted-none, omega arith)
 
 element-copy-out-method-refusal : tie.Need-element-copy-out-method-refusal Inv-loop μ-loop
 element-copy-out-method-refusal c = search needs
@@ -38,7 +38,7 @@ loop-less c = search needs
 loop-again : tie.Need-loop-again Inv-loop μ-loop
 loop-again c =
     let h = c .before .before .before in (
-      fits-more (h .loop .inv .0) (c .method-refusal .ensures
+      accepted-more (h .loop .inv .0) (c .method-refusal .ensures
           ∙ method-values (h .before .before .args .t1) (h .loop .i) (at (h .before .before .args .t1 .«method_forms») (h .loop .i))
           (at (h .before .before .args .t1 .«method_privileges») (h .loop .i))),
       omega arith,

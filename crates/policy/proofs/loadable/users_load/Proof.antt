@@ -7,13 +7,13 @@ use Rattle.policy.specs.Table.{user}
 use Rattle.policy.specs.Rows.{minimumKey}
 use Rattle.policy.specs.RowLaws.{user-values}
 use Rattle.policy.proofs.Zero.{zeros-two}
-use Rattle.policy.proofs.Tables.{Fits, fits-none, fits-more, least-more, table-over, table-all}
+use Rattle.policy.proofs.Tables.{RowsAccepted, accepted-none, accepted-more, least-more, table-over, table-all}
 use borrow.Author.Needs.{needs}
 use Rattle.policy.proofs.loadable.users_load.Statement.{statement}
 use Rattle.policy.proofs.loadable.users_load.Tie as tie
 
 abbrev Inv-loop : tie.InvT-loop
-Inv-loop rules n fit₀ least₀ i₀ fit least i = Fits rules user fit i × (least ≡ minimumKey user i rules) × (i ≤ n)
+Inv-loop rules n fit₀ least₀ i₀ fit least i = RowsAccepted rules user fit i × (least ≡ minimumKey user i rules) × (i ≤ n)
 
 abbrev μ-loop : tie.MeasureT-loop
 μ-loop rules n fit₀ least₀ i₀ fit least i = n - i
@@ -22,7 +22,7 @@ returns : tie.Need-returns Inv-loop μ-loop
 returns c = table-over _ user (c .if1 .taken)
 
 loop-holds : tie.Need-loop-holds Inv-loop μ-loop
-loop-holds c = (fits-none, refl, omega arith)
+loop-holds c = (accepted-none, refl, omega arith)
 
 element-copy-out-object : tie.Need-element-copy-out-object Inv-loop μ-loop
 element-copy-out-object c = search needs
@@ -43,7 +43,7 @@ loop-again : tie.Need-loop-again Inv-loop μ-loop
 loop-again c =
     let h = c .before .before .before .before in
     let r = h .before .before .args .t1 in (
-      fits-more (h .loop .inv .0) (c .before .user-refusal .ensures
+      accepted-more (h .loop .inv .0) (c .before .user-refusal .ensures
           ∙ user-values r (h .loop .i) (at (r .«user_objects») (h .loop .i)) (at (r .«user_roles») (h .loop .i)) (h .loop .inv .1)),
       least-more r
           user (h .loop .i) (c .after-user .ensures),

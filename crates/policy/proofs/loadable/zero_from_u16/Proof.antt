@@ -1,19 +1,19 @@
 -- `zero_from_u16` meets its contract: the law is the same at each width (`Zero`).
 use Prim.Native.Nat.{_-_}
 use lib.ListN.{length}
-use Rattle.policy.proofs.Zero.{Found, found-none, found-more, found-end}
+use Rattle.policy.proofs.Zero.{ZerosTested, tested-none, tested-more, tested-end}
 use borrow.Author.Needs.{needs}
 use Rattle.policy.proofs.loadable.zero_from_u16.Statement.{statement}
 use Rattle.policy.proofs.loadable.zero_from_u16.Tie as tie
 
 abbrev Inv-loop : tie.InvT-loop
-Inv-loop column count zero₀ i₀ zero i = Found column count zero i
+Inv-loop column count zero₀ i₀ zero i = ZerosTested column count zero i
 
 abbrev μ-loop : tie.MeasureT-loop
 μ-loop column count zero₀ i₀ zero i = length column - i
 
 loop-holds : tie.Need-loop-holds Inv-loop μ-loop
-loop-holds c = found-none
+loop-holds c = tested-none
 
 mul-zero : tie.Need-mul-zero Inv-loop μ-loop
 mul-zero c = search needs
@@ -28,10 +28,10 @@ loop-less : tie.Need-loop-less Inv-loop μ-loop
 loop-less c = search needs
 
 loop-again : tie.Need-loop-again Inv-loop μ-loop
-loop-again c = found-more (c .before .before .loop .inv) (c .before .loop-test .taken)
+loop-again c = tested-more (c .before .before .loop .inv) (c .before .loop-test .taken)
 
 returns : tie.Need-returns Inv-loop μ-loop
-returns c = found-end (c .before .loop .inv) (c .loop-test .left)
+returns c = tested-end (c .before .loop .inv) (c .loop-test .left)
 
 pub zero-from-u16-spec : {M : Type 1} → statement M
 zero-from-u16-spec =

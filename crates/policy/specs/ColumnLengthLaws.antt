@@ -11,7 +11,7 @@ use Rattle.policy.specs.declared.Memo.{Memo}
 use Rattle.policy.specs.Table.{user, edge, formula, demarcation, hierarchy, principal, exclusion, prerequisite, method, column}
 use Rattle.policy.specs.Table.{changed}
 use Rattle.policy.specs.Table.{withMemo}
-use Rattle.policy.specs.TableLaws.{Sized, sized}
+use Rattle.policy.specs.TableLaws.{ColumnLengths, sized}
 
 column-long : (j : ℕ) (es : List (List ℕ)) → length es ≤ mostEdges → length (column j es) ≡ mostEdges
 column-long j es few =
@@ -20,14 +20,14 @@ column-long j es few =
     let c = length-replicate {A = ℕ} (mostEdges - length es) 0 in
     omega arith
 
-pub sized-changed : (r : Record) (es : List (List ℕ)) (m : Memo) → length es ≤ mostEdges → Sized r → Sized (changed r es m)
+pub sized-changed : (r : Record) (es : List (List ℕ)) (m : Memo) → length es ≤ mostEdges → ColumnLengths r → ColumnLengths (changed r es m)
 unfolding changed
 sized-changed r es m few s =
     sized _ (s .long user) (column-long 0 es few, (column-long 1 es few, (column-long 2 es few, tt))) (s .long formula)
     (s .long demarcation) (s .long hierarchy) (s .long principal)
     (s .long exclusion) (s .long prerequisite) (s .long method)
 
-pub sized-memo : (r : Record) (m : Memo) → Sized r → Sized (withMemo r m)
+pub sized-memo : (r : Record) (m : Memo) → ColumnLengths r → ColumnLengths (withMemo r m)
 unfolding withMemo
 sized-memo r m s =
     sized _ (s .long user) (s .long edge) (s .long formula) (s .long demarcation) (s .long hierarchy) (s .long principal)
