@@ -17,7 +17,7 @@ use Rattle.memo.proofs.memo_for.Tie as tie
 emptied-requires : tie.Need-emptied-requires
 emptied-requires c κs = search needs
 
--- a memo has a index for each formula, by its type
+-- a memo has an entry for each formula, by its type
 length-of : (n : ℕ) (c : List Bool) (vs : List Val) → shadow (array-field bool-field n .row .own (map (λ (v : Bool). v) c) vs)
     → length c ≡ n
 length-of n c vs p = ap length (sym (map-id c)) ∙ p .1 .0 .1
