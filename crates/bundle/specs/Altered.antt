@@ -1,11 +1,13 @@
--- Two texts that load to the same rules are the same text; a text that loads, with exactly one byte altered, is refused with 1 to 9.
+-- Two texts that load to the same rules are the same text; a text that loads, with exactly one byte altered, is refused with 1 to 9; what
+-- every load answers.
 use Prim.Native.Nat.{ℕ, _+_, _≤_}
-use mathlib.Core.Path.{_≡_, sym, _∙_, ap}
+use mathlib.Core.Path.{_≡_, refl, sym, _∙_, ap}
 use mathlib.Core.Logic.{_≢_}
 use mathlib.Core.Bool.{Bool, true, false, false≢true, not, cond, _&&_, _||_}
 use mathlib.Core.List.{List, [], _∷_, _++_}
 use native.Mathlib.Omega.{arith}
 use lib.Dec.{ltb, leb, eqb}
+use borrow.Author.Tests.{eqb-false}
 use Rattle.common.specs.Causes.{cause, first}
 use Rattle.common.specs.Refusals.{wrongKind, wrongEnd}
 use Rattle.common.specs.Refusals as refusals
@@ -13,7 +15,7 @@ use Rattle.closure.specs.Closure.{circular}
 use Rattle.octets.specs.Line.{Framed, kindOctet}
 use Rattle.octets.specs.Damage.{OneAltered}
 use Rattle.octets.specs.DamageLaws.{never-well-framed}
-use Rattle.policy.specs.Table.{Kind, hierarchy, prerequisite, kindOf, count, room, rows}
+use Rattle.policy.specs.Table.{Kind, hierarchy, prerequisite, kindOf, count, room, rows, blank}
 use Rattle.rows.specs.Checks.{causes}
 use Rattle.policy.specs.Rows.{limited, rising, key, minimumKey, inRange, rowCauses}
 use Rattle.reading.specs.declared.Loaded.{Loaded}
@@ -53,34 +55,44 @@ line-number t k os =
     go false false false false true = omega arith
     go false false false false false = omega arith
 
-end-number : (t : Reading) → afterLastLine t .number ≤ 9
+-- "Success is number 0, with line 0 from loading"; a refusal has one of 1 to 9 and the blank record
+pub record LoadAnswer (l : Loaded) : Type 0 where
+  pub number : l .number ≤ 9
+  pub success : l .number ≡ 0 → l .line ≡ 0
+  pub refused : l .number ≢ 0 → l .rules ≡ blank
+
+refusal-answer : (n line : ℕ) → n ≢ 0 → n ≤ 9 → LoadAnswer (notLoaded n line)
+refusal-answer n line h l = record { number = l; success = λ e. absurd (h e); refused = λ e. refl }
+
+end-answer : (t : Reading) → LoadAnswer (afterLastLine t)
 unfolding afterLastLine
-end-number t = go (eqb (t .last) 0xFF) (circular (rows hierarchy (t .rules)) || circular (rows prerequisite (t .rules)))
+end-answer t = go (eqb (t .last) 0xFF) (circular (rows hierarchy (t .rules)) || circular (rows prerequisite (t .rules)))
   where
     go : (x y : Bool)
-        → cond (not x) (notLoaded wrongEnd (t .lines + 1))
-        (cond y (notLoaded refusals.circle (t .lines)) (record { number = 0; line = 0; rules = t .rules })) .number ≤ 9
-    go false y = omega arith
-    go true true = omega arith
-    go true false = omega arith
+        → LoadAnswer
+        (cond (not x) (notLoaded wrongEnd (t .lines + 1))
+        (cond y (notLoaded refusals.circle (t .lines)) (record { number = 0; line = 0; rules = t .rules })))
+    go false y = refusal-answer wrongEnd _ (λ e. omega arith) (omega arith)
+    go true true = refusal-answer refusals.circle _ (λ e. omega arith) (omega arith)
+    go true false = record { number = omega arith; success = λ e. refl; refused = λ e. absurd (e refl) }
 
-read-number : {ls : List Framed} → Lines ls → (t : Reading) → read t ls .number ≤ 9
+read-answer : {ls : List Framed} → Lines ls → (t : Reading) → LoadAnswer (read t ls)
 unfolding read
-read-number none t = end-number t
-read-number (more (refused-line l h) p) t = omega arith
-read-number (more (octets-line {os} f) p) t =
-    go (eqb (lineRefusal t (kindOf (kindOctet os)) os) 0) _ (read-number p (afterLine t (kindOf (kindOctet os)) os))
+read-answer none t = end-answer t
+read-answer (more (refused-line {n} l h) p) t = refusal-answer n (t .lines + 1) (λ e. omega arith) (omega arith)
+read-answer (more (octets-line {os} f) p) t =
+    go (eqb (lineRefusal t (kindOf (kindOctet os)) os) 0) refl _ (read-answer p (afterLine t (kindOf (kindOctet os)) os))
   where
-    go : (x : Bool) (l : Loaded) → l .number ≤ 9
-        → cond x l (notLoaded (lineRefusal t (kindOf (kindOctet os)) os) (t .lines + 1)) .number ≤ 9
-    go true l h = h
-    go false l h = line-number t (kindOf (kindOctet os)) os
+    go : (x : Bool) → eqb (lineRefusal t (kindOf (kindOctet os)) os) 0 ≡ x → (l : Loaded) → LoadAnswer l
+        → LoadAnswer (cond x l (notLoaded (lineRefusal t (kindOf (kindOctet os)) os) (t .lines + 1)))
+    go true e l h = h
+    go false e l h = refusal-answer (lineRefusal t (kindOf (kindOctet os)) os) _ (eqb-false _ _ e) (line-number t (kindOf (kindOctet os)) os)
 
--- the number of any load is at most 9
-pub load-number : (t : List ℕ) → load t .number ≤ 9
+-- of every text
+pub load-answer : (t : List ℕ) → LoadAnswer (load t)
 unfolding load
-load-number t = read-number (lines-checked t) atTop
+load-answer t = read-answer (lines-checked t) atTop
 
 -- so an altered text is refused with one of 1 to 9
 pub altered-number : (t u : List ℕ) → load t .number ≡ 0 → OneAltered t u → (1 ≤ load u .number) × (load u .number ≤ 9)
-altered-number t u e o = let h = altered-refused t u e o in (omega arith, load-number u)
+altered-number t u e o = let h = altered-refused t u e o in (omega arith, load-answer u .number)

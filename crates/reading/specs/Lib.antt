@@ -1,4 +1,5 @@
 pub mod Body
 pub mod Loading
 pub mod LoadingLaws
+pub mod PlacementLaws
 pub mod Stages

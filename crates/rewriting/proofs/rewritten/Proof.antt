@@ -12,7 +12,7 @@ use Rattle.reading.specs.declared.Loaded.{Loaded}
 use Rattle.reading.specs.Loading.{load}
 use Rattle.reading.specs.LoadingLaws.{as-loaded}
 use Rattle.bundle.specs.Writing.{bundleOf}
-use Rattle.bundle.specs.Altered.{load-number}
+use Rattle.bundle.specs.Altered.{load-answer}
 use Rattle.rewriting.specs.Program.{mostBytes, refusedText, program}
 use Rattle.rewriting.specs.ProgramLaws.{load-line, prints-long, prints-refusal, prints-bundle, shown-same, writes-none, writes-whole}
 use Rattle.rewriting.proofs.rewritten.Statement.{statement}
@@ -43,7 +43,7 @@ load-requires c κs = search needs
 refusal-text-requires : tie.Need-refusal-text-requires
 refusal-text-requires c κs =
     let h = c .before .before in (
-      omega (arith, load-number (text h), ap (λ (l : Loaded). l .number) (h .load .ensures)),
+      omega (arith, load-answer (text h) .number, ap (λ (l : Loaded). l .number) (h .load .ensures)),
       omega
           (arith, load-line (text h), short h, ap (λ (l : Loaded). l .line) (h .load .ensures)),
     )
