@@ -5,6 +5,7 @@ use mathlib.Core.Bool.{true}
 use mathlib.Core.List.{List, [], _∷_}
 use native.Mathlib.Omega.{arith}
 use lib.ListN.{length, length-append}
+use Rattle.common.specs.Limits.{mostUsers, mostEdges, mostFormulas, mostDemarcations, mostPairs, mostPrincipals, mostExclusions, mostMethods}
 use Rattle.common.specs.ListLaws.{length-table}
 use Rattle.octets.specs.Line.{total, lineBytes, textOf, totals}
 use Rattle.octets.specs.WritingLaws.{length-line}
@@ -85,15 +86,15 @@ rules-few r loads (k ∷ ks) = omega (arith, rest-count k ks r, table-few r k (l
 
 -- its counts
 pub record Few (r : Record) : Type 0 where
-  pub users : r .«user_count» ≤ 255
-  pub edges : r .«edge_count» ≤ 512
-  pub formulas : r .«formula_count» ≤ 64
-  pub demarcations : r .«demarcation_count» ≤ 20
-  pub hierarchies : r .«hierarchy_count» ≤ 380
-  pub principals : r .«principal_count» ≤ 20
-  pub exclusions : r .«exclusion_count» ≤ 190
-  pub prerequisites : r .«prerequisite_count» ≤ 380
-  pub methods : r .«method_count» ≤ 32
+  pub users : r .«user_count» ≤ mostUsers
+  pub edges : r .«edge_count» ≤ mostEdges
+  pub formulas : r .«formula_count» ≤ mostFormulas
+  pub demarcations : r .«demarcation_count» ≤ mostDemarcations
+  pub hierarchies : r .«hierarchy_count» ≤ mostPairs
+  pub principals : r .«principal_count» ≤ mostPrincipals
+  pub exclusions : r .«exclusion_count» ≤ mostExclusions
+  pub prerequisites : r .«prerequisite_count» ≤ mostPairs
+  pub methods : r .«method_count» ≤ mostMethods
 
 pub few : (r : Record) → loadable r ≡ true → Few r
 few r loads =

@@ -5,6 +5,7 @@ use mathlib.Core.Logic.{_↔_}
 use mathlib.Core.Bool.{Bool, true, false, not, cond, _&&_}
 use mathlib.Core.List.{List, [], _∷_}
 use lib.Dec.{eqb}
+use Rattle.common.specs.Limits.{privilegeCount}
 use Rattle.common.specs.Lists.{at, any, every}
 use Rattle.common.specs.BoolLaws.{and-cases, and-both, or-left, or-left-only}
 use Rattle.common.specs.QuantifierLaws.{any-table, table-any, some-of, all-of}
@@ -38,21 +39,21 @@ demarcation-gathers r d s g marks gathers k = (
       gathers .all k e l (marks .all e l y) (member-in z),
 )
 
--- the guard of method m, which lists privileges below 64: g need tell only of those
-module _ (r : Record) (m : ℕ) (bounded : at (r .«method_privileges») m < 2 ^ 64) (ps : List ℕ) (g : ℕ)
+-- the guard of method m, which lists privileges below that count: g need tell only of those
+module _ (r : Record) (m : ℕ) (bounded : at (r .«method_privileges») m < 2 ^ privilegeCount) (ps : List ℕ) (g : ℕ)
     (gives : (k : ℕ) → In k (at (r .«method_privileges») m) → (In k g ↔ (have r ps k ≡ true))) where
   by-form : (one : Bool)
       →
       ((cond one (any (have r ps) (listed r m)) (every (have r ps) (listed r m)) ≡ true) ↔ MetBy (not one) (at (r .«method_privileges») m)
       g)
   by-form true =
-      let e = some-of (have r ps) (λ j. member j (at (r .«method_privileges») m)) 64 in (
+      let e = some-of (have r ps) (λ j. member j (at (r .«method_privileges») m)) privilegeCount in (
         λ t. let (j, l, w, h) = e .0 t in (j, member-in w, gives j (member-in w) .1 h),
-        λ (j, w, i). e .1 (j, in-lt 64 w bounded, in-member w, gives j w .0 i),
+        λ (j, w, i). e .1 (j, in-lt privilegeCount w bounded, in-member w, gives j w .0 i),
       )
   by-form false =
-      let e = all-of (have r ps) (λ j. member j (at (r .«method_privileges») m)) 64 in (
-        λ t j w. gives j w .1 (e .0 t j (in-lt 64 w bounded) (in-member w)),
+      let e = all-of (have r ps) (λ j. member j (at (r .«method_privileges») m)) privilegeCount in (
+        λ t j w. gives j w .1 (e .0 t j (in-lt privilegeCount w bounded) (in-member w)),
         λ f. e .1 (λ j l w. gives j (member-in w) .0 (f j (member-in w))),
       )
 
@@ -84,7 +85,7 @@ one-gives r p g h k =
     (λ i. or-left _ false (h k .0 i), λ t. h k .1 (or-left-only (demarcationHas r (at (r .«principal_demarcations») p) k) false refl t))
 
 -- one enabled principal alone meets the guard: of those that do, one is enabled
-pub one-meets-is : (r : Record) (m : ℕ) (q : Question) (a e : ℕ) (grants : List ℕ) → at (r .«method_privileges») m < 2 ^ 64
+pub one-meets-is : (r : Record) (m : ℕ) (q : Question) (a e : ℕ) (grants : List ℕ) → at (r .«method_privileges») m < 2 ^ privilegeCount
     → Those (r .«principal_count») (λ p. MetBy (not (eqb (at (r .«method_forms») m) 0)) (at (r .«method_privileges») m) (at grants p)) a
     → Those (r .«principal_count») (λ p. (In p a) × (isEnabled r q p ≡ true)) e
     → ((p k : ℕ) → p < r .«principal_count» → (In k (at grants p) ↔ (demarcationHas r (at (r .«principal_demarcations») p) k ≡ true)))

@@ -5,6 +5,7 @@ use mathlib.Core.Bool.{Bool, not, cond, _&&_}
 use mathlib.Core.List.{List, [], _∷_, _++_, map}
 use mathlib.Core.Option.{Option, none, some}
 use lib.Dec.{eqb}
+use Rattle.common.specs.Limits.{privilegeCount}
 use Rattle.common.specs.Lists.{at, any, every, those, below}
 use Rattle.common.specs.Sets.{member}
 use Rattle.closure.specs.Closure.{reaches}
@@ -29,7 +30,7 @@ have r ps k = any (λ p. demarcationHas r (at (r .«principal_demarcations») p)
 
 -- the privileges that method m lists
 abbrev pub listed : Record → ℕ → List ℕ
-listed r m = those (λ k. member k (at (r .«method_privileges») m)) (below 64)
+listed r m = those (λ k. member k (at (r .«method_privileges») m)) (below privilegeCount)
 
 -- principals ps meet the guard of method m: one-of (form 0) needs at least one listed privilege, all-of every one
 unfoldable pub meets : Record → ℕ → List ℕ → Bool
