@@ -8,32 +8,32 @@
 
 #include "case_access.h"
 
-enum { ADD, REMOVE, EAGER, LAZY, LIBERAL, STRICT };
 enum { CROWN, ANA, BEN };
 
-static uint8_t bundle[65536];
+static uint8_t bundle[ACCESS_LARGEST_BUNDLE];
 static size_t length;
 
-/* Prints the answer to the last of the calls, which go to a record just loaded. */
+/* Prints the answer to the last of the calls (one or two), which go to a record just loaded. */
 static void ask(const char *what, const uint8_t *calls, size_t count)
 {
-    uint8_t answers[5 * 4];
-    uint64_t result = access_replay(bundle, length, calls, 4 * count, answers, sizeof answers);
-    const uint8_t *a = answers + 5 * (count - 1);
-    uint32_t set = (uint32_t)a[1] << 16 | (uint32_t)a[2] << 8 | a[3];
+    uint8_t answers[2 * ACCESS_ANSWER_OCTETS];
+    uint64_t result = access_replay(bundle, length, calls, ACCESS_CALL_OCTETS * count, answers, sizeof answers);
+    const uint8_t *a = answers + ACCESS_ANSWER_OCTETS * (count - 1);
+    uint32_t set;
     int p, members = 0;
 
     printf("%-34s ", what);
-    if (result != count) {
-        printf("the bundle is refused with %u\n", (unsigned)(result >> 32));
+    if (access_number(result) != ACCESS_ACCEPTED) {
+        printf("the bundle is refused (%u): %s\n", access_number(result), access_number_text(access_number(result)));
         return;
     }
-    if (calls[4 * (count - 1)] >= LIBERAL) {
-        printf("%s\n", a[0] ? "refused" : set ? "yes" : "no");
+    set = (uint32_t)a[1] << 16 | (uint32_t)a[2] << 8 | a[3];
+    if (calls[ACCESS_CALL_OCTETS * (count - 1)] >= ACCESS_CALL_LIBERAL) {
+        printf("%s\n", a[0] != ACCESS_ACCEPTED ? "refused" : set ? "yes" : "no");
         return;
     }
-    if (a[0] != 0) {
-        printf("%s (%u), evaluations %u\n", a[0] == 17 ? "denied" : "refused", a[0], a[4]);
+    if (a[0] != ACCESS_ACCEPTED) {
+        printf("%s (%u), evaluations %u\n", a[0] == ACCESS_NO_SET ? "denied" : "refused", a[0], a[4]);
         return;
     }
     printf("granted {");
@@ -45,10 +45,17 @@ static void ask(const char *what, const uint8_t *calls, size_t count)
 
 int main(void)
 {
-    const uint8_t a[] = {LAZY, 0, CROWN, ANA}, b[] = {EAGER, 0, CROWN, ANA}, c[] = {LAZY, 1, CROWN, ANA}, d[] = {LAZY, 2, CROWN, ANA};
-    const uint8_t e[] = {LAZY, 3, CROWN, ANA}, f[] = {LIBERAL, 3, CROWN, ANA}, g[] = {STRICT, 3, CROWN, ANA};
-    const uint8_t h[] = {LAZY, 0, CROWN, BEN}, i[] = {STRICT, 0, CROWN, BEN};
-    const uint8_t j[] = {REMOVE, 1, CROWN, ANA, LAZY, 0, CROWN, ANA}, k[] = {LAZY, 0, CROWN, CROWN};
+    const uint8_t a[] = {ACCESS_CALL_LAZY, 0, CROWN, ANA};
+    const uint8_t b[] = {ACCESS_CALL_EAGER, 0, CROWN, ANA};
+    const uint8_t c[] = {ACCESS_CALL_LAZY, 1, CROWN, ANA};
+    const uint8_t d[] = {ACCESS_CALL_LAZY, 2, CROWN, ANA};
+    const uint8_t e[] = {ACCESS_CALL_LAZY, 3, CROWN, ANA};
+    const uint8_t f[] = {ACCESS_CALL_LIBERAL, 3, CROWN, ANA};
+    const uint8_t g[] = {ACCESS_CALL_STRICT, 3, CROWN, ANA};
+    const uint8_t h[] = {ACCESS_CALL_LAZY, 0, CROWN, BEN};
+    const uint8_t i[] = {ACCESS_CALL_STRICT, 0, CROWN, BEN};
+    const uint8_t j[] = {ACCESS_CALL_REMOVE, 1, CROWN, ANA, ACCESS_CALL_LAZY, 0, CROWN, ANA};
+    const uint8_t k[] = {ACCESS_CALL_LAZY, 0, CROWN, CROWN};
 
     length = fread(bundle, 1, sizeof bundle, stdin);
     ask("(a) Ana, method 0, lazy", a, 1);
