@@ -31,13 +31,14 @@ use Rattle.reading.specs.LoadingLaws.{as-loaded}
 use Rattle.access.specs.declared.Answer.{Answer}
 use Rattle.access.specs.Access.{refused, eager, lazy}
 use Rattle.access.specs.CorrectMemo.{CorrectMemo}
+use Rattle.access.specs.CorrectMemoLaws.{emptied-correct}
 use Rattle.memo.specs.WalkLaws.{MemoLengths}
 use Rattle.search.specs.Search.{Before}
 use Rattle.history.specs.Book.{Call, add, remove, askEagerly, askLazily, Book, BookAnswer, holdsEdge, addRefusal, removeRefusal}
 use Rattle.history.specs.Book.{askRefusal, verdict, enabledIn, ask, bookAfterCall, numberAndSet, engineLeaves}
 use Rattle.history.specs.Agrees.{Agrees}
 use Rattle.history.specs.EditAgrees.{distinct-rows, add-number, add-agrees, add-refused, remove-number, remove-agrees, remove-refused}
-use Rattle.history.specs.EditAgrees.{emptied-lengths, emptied-correct, without-holds}
+use Rattle.history.specs.EditAgrees.{emptied-lengths, without-holds}
 use Rattle.history.specs.AskAgrees.{refusal-is, eager-answer, eager-agrees, eager-refused, lazy-answer, lazy-agrees, lazy-refused}
 use Rattle.history.specs.Demand3.{Changes, EditHolds, Known, Satisfies, QuestionHolds, SameSet, CallHolds, ListHolds, Demand3}
 
@@ -266,7 +267,7 @@ start text e =
       rest = refl;
       sized = g .sized;
       lengths = subst MemoLengths (sym (g .memo)) emptied-lengths;
-      correct = subst (CorrectMemo r) (sym (g .memo)) (emptied-correct r);
+      correct = subst (CorrectMemo r) (sym (g .memo)) (emptied-correct r 0 0);
     }
 
 pub demand-3 : Demand3
