@@ -1,6 +1,6 @@
 -- The two questions answer the same, lazy by no more evaluations: of every record, with any memo.
 use Prim.Native.Nat.{ℕ, _≤_, _<_}
-use mathlib.Core.Path.{_≡_, refl, sym, _∙_, ap}
+use mathlib.Core.Path.{_≡_, refl, sym, _∙_, ap, subst}
 use mathlib.Core.Bool.{Bool, true, false, false≢true, not, cond, _&&_}
 use mathlib.Core.List.{List, [], _∷_}
 use native.Mathlib.Omega.{arith}
@@ -13,6 +13,7 @@ use Rattle.common.specs.Lists.{those, below}
 use Rattle.common.specs.BoolLaws.{and-cases, and-both}
 use Rattle.policy.specs.declared.Record.{Record}
 use Rattle.policy.specs.declared.Memo.{Memo}
+use Rattle.policy.specs.Table.{withMemo}
 use Rattle.justification.specs.Justification.{candidates}
 use Rattle.justification.specs.declared.Question.{Question}
 use Rattle.justification.specs.Predicates.{questionRefusal}
@@ -98,6 +99,20 @@ module _ (q : ℕ → Bool) (truth : ℕ → Bool) (r : Record) where
       reached-within s (λ g i w. a g i (omega (arith, evaluates truth m (formulaOf r p) .same .knowns)))
       (evaluated-within m (formulaOf r p) (a p l) h)
 
+-- ---- the count
+
+-- the number of formulas known in the memo left and not known before
+abbrev Counts : Memo → Answer → Type 0
+Counts before a = a .evaluations ≡ newly before (a .rules .memo)
+
+answered-counts : (r : Record) (k : Memo) (a : Outcome) → Counts k (answered r k a)
+unfolding answered withMemo
+answered-counts r k (granted c m) = refl
+answered-counts r k (denied m) = refl
+
+not-refused : (r : Record) (k : Memo) {n : ℕ} → n ≡ 0 → (a : Answer) → Counts k a → Counts k (asked r n a)
+not-refused r k e a h = subst (λ (n : ℕ). Counts k (asked r n a)) (sym e) h
+
 -- ---- of every record and question
 
 module _ (r : Record) (q : Question) where
@@ -109,6 +124,15 @@ module _ (r : Record) (q : Question) where
 
   abbrev walked : Outcome
   walked = walk (truthAt r q) r before (candidates r (q .method))
+
+  -- the evaluations are the documents' count: before is counted after the emptying
+  pub eager-counts : questionRefusal r q ≡ 0 → eager r q .evaluations ≡ newly (memoFor (r .memo) q) (eager r q .rules .memo)
+  unfolding eager
+  eager-counts e = not-refused r before e _ (answered-counts r before (eagerly r (q .method) after))
+
+  pub lazy-counts : questionRefusal r q ≡ 0 → lazy r q .evaluations ≡ newly (memoFor (r .memo) q) (lazy r q .rules .memo)
+  unfolding lazy
+  lazy-counts e = not-refused r before e _ (answered-counts r before walked)
 
   -- FROM EQUAL RECORDS both forms return the same number and set
   pub same-always : SameNumberAndSet (eager r q) (lazy r q)
