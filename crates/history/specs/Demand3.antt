@@ -1,6 +1,7 @@
 -- Demand 3, word by word. A record just loaded from a bundle, and any list of edge additions, edge removals, eager and lazy
 -- questions, refused ones included: each call gets the record that the calls before it left. Beside the engine goes the edge book,
--- which is given the bundle's record and each call's kind and arguments, and nothing that the engine answers or holds.
+-- which starts with the text's edge lines and is given the bundle's record and each call's kind and arguments, and nothing that the
+-- engine answers or holds.
 use Prim.Native.Nat.{ℕ, _^_, _≤_, _<_}
 use mathlib.Core.Path.{_≡_}
 use mathlib.Core.Logic.{_↔_, _≢_}
@@ -9,7 +10,6 @@ use mathlib.Core.List.{List, [], _∷_}
 use Rattle.common.specs.Refusals.{noSet}
 use Rattle.common.specs.Sets.{In}
 use Rattle.policy.specs.declared.Record.{Record}
-use Rattle.policy.specs.Table.{edge, rows}
 use Rattle.policy.specs.Edits.{added, removed}
 use Rattle.formula.specs.Formula.{isUser}
 use Rattle.search.specs.Search.{Before}
@@ -19,7 +19,8 @@ use Rattle.memo.specs.Memo.{memoFor, newly}
 use Rattle.reading.specs.Loading.{load}
 use Rattle.access.specs.declared.Answer.{Answer}
 use Rattle.access.specs.Access.{eager, lazy}
-use Rattle.history.specs.Book.{Call, add, remove, askEagerly, askLazily, Book, holdsEdge, enabledIn, bookAfterCall, engineLeaves}
+use Rattle.history.specs.Book.{Call, add, remove, askEagerly, askLazily, Book, firstBook, holdsEdge, enabledIn, bookAfterCall}
+use Rattle.history.specs.Book.{engineLeaves}
 
 -- the book changes: some edge is in the one and not in the other
 abbrev pub Changes : Book → Book → Type 0
@@ -76,8 +77,8 @@ abbrev pub ListHolds : Record → Book → Record → List Call → Type 0
 ListHolds b book r [] = Unit {0}
 ListHolds b book r (c ∷ cs) = CallHolds b book r c × ListHolds b (bookAfterCall b book c) (engineLeaves r c) cs
 
--- of every text that loads, and every list of calls; the book starts with the edges of the edge lines
+-- of every text that loads, and every list of calls: "Its state is a set of edges, at first those of the edge lines."
 abbrev pub Demand3 : Type 0
 Demand3 =
     (text : List ℕ) → load text .number ≡ 0 → (calls : List Call)
-    → ListHolds (load text .rules) (rows edge (load text .rules)) (load text .rules) calls
+    → ListHolds (load text .rules) (firstBook text) (load text .rules) calls

@@ -18,7 +18,7 @@ use Rattle.common.specs.Refusals.{edgeOutOfRange, edgePresent, edgeAbsent, edge
 use Rattle.common.specs.Sets.{member}
 use Rattle.common.specs.SetLaws.{member-in, in-member, in-lt}
 use Rattle.policy.specs.declared.Record.{Record}
-use Rattle.policy.specs.Table.{edge, row, rows}
+use Rattle.policy.specs.Table.{edge, row}
 use Rattle.rows.specs.Checks.{edgeInRange}
 use Rattle.policy.specs.Edits.{without, added, removed}
 use Rattle.formula.specs.Formula.{isUser}
@@ -37,12 +37,14 @@ use Rattle.access.specs.CorrectMemoLaws.{emptied-correct}
 use Rattle.memo.specs.Memo.{memoFor, newly}
 use Rattle.memo.specs.WalkLaws.{MemoLengths}
 use Rattle.search.specs.Search.{Before}
-use Rattle.history.specs.Book.{Call, add, remove, askEagerly, askLazily, Book, BookAnswer, holdsEdge, addRefusal, removeRefusal}
+use Rattle.history.specs.Book.{Call, add, remove, askEagerly, askLazily, Book, BookAnswer, firstBook, holdsEdge}
+use Rattle.history.specs.Book.{addRefusal, removeRefusal}
 use Rattle.history.specs.Book.{askRefusal, verdict, enabledIn, ask, bookAfterCall, numberAndSet, engineLeaves}
-use Rattle.history.specs.Agrees.{Agrees}
+use Rattle.history.specs.Agrees.{Distinct, Agrees}
 use Rattle.history.specs.EditAgrees.{distinct-rows, add-number, add-agrees, add-refused, remove-number, remove-agrees, remove-refused}
 use Rattle.history.specs.EditAgrees.{emptied-lengths, without-holds}
 use Rattle.history.specs.AskAgrees.{refusal-is, eager-answer, eager-agrees, eager-refused, lazy-answer, lazy-agrees, lazy-refused}
+use Rattle.history.specs.FirstBook.{first-edges}
 use Rattle.history.specs.Demand3.{Changes, EditHolds, Known, Satisfies, QuestionHolds, BothForms, CallHolds, ListHolds, Demand3}
 
 -- ---- edits
@@ -261,16 +263,17 @@ list-holds b [] book r h = tt
 list-holds b (c ∷ cs) book r h =
     (call-holds b book r h c, list-holds b cs (bookAfterCall b book c) (engineLeaves r c) (call-agrees b book r h c))
 
--- a record just loaded agrees the book of its own edges
-pub start : (text : List ℕ) → load text .number ≡ 0 → Agrees (load text .rules) (rows edge (load text .rules)) (load text .rules)
+-- a record just loaded agrees the book of its edge lines
+pub start : (text : List ℕ) → load text .number ≡ 0 → Agrees (load text .rules) (firstBook text) (load text .rules)
 start text e =
     let g = as-loaded text e in
     let r = load text .rules in
+    let same = first-edges text e in
     record {
       loads = g .loads;
-      edges = λ d. refl;
-      count = sym (length-table (r .«edge_count») (λ i. row edge i r));
-      once = distinct-rows r (g .loads);
+      edges = λ d. ap (λ (es : Book). holdsEdge es d) same;
+      count = sym (length-table (r .«edge_count») (λ i. row edge i r)) ∙ ap length same;
+      once = subst Distinct same (distinct-rows r (g .loads));
       rest = refl;
       sized = g .sized;
       lengths = subst MemoLengths (sym (g .memo)) emptied-lengths;
@@ -278,4 +281,4 @@ start text e =
     }
 
 pub demand-3 : Demand3
-demand-3 text e calls = list-holds (load text .rules) calls (rows edge (load text .rules)) (load text .rules) (start text e)
+demand-3 text e calls = list-holds (load text .rules) calls (firstBook text) (load text .rules) (start text e)

@@ -2,3 +2,6 @@ pub mod Body
 pub mod Loading
 pub mod LoadingLaws
 pub mod Stages
+pub mod FramedLaws
+pub mod TakenLaws
+pub mod KindLaws
