@@ -47,21 +47,22 @@ pub record Satisfies (b : Record) (book : Book) (q : Question) (c : ℕ) : Type 
 
 -- "Each question with a known method, object and user is denied exactly when no set .. will do. Otherwise it returns such a set,
 -- the least in the documents' order: every other such set has at least as many members", and of those with as many none
--- has a smaller number (`Before`). Its evaluations are "by the documents' count": "the number of formulas known after and not known before
--- (before is counted after the emptying)". A question that is refused changes nothing.
+-- has a smaller number (`Before`). A question that is refused changes nothing.
 pub record QuestionHolds (b : Record) (book : Book) (q : Question) (r : Record) (a : Answer) : Type 0 where
   pub denied : Known b q → ((a .number ≡ noSet) ↔ ((c : ℕ) → Satisfies b book q c → ⊥))
   pub empty : Known b q → a .number ≡ noSet → a .set ≡ 0
   pub granted : Known b q → a .number ≢ noSet
       → (a .number ≡ 0) × Satisfies b book q (a .set) × ((c : ℕ) → Satisfies b book q c → Before (a .set) c)
+  -- "the documents' count": "the number of formulas known after and not known before (before is counted after the emptying)"
   pub counted : Known b q → a .evaluations ≡ newly (memoFor (r .memo) q) (a .rules .memo)
   pub refused : (Known b q → ⊥) → (a .rules ≡ r) × (a .set ≡ 0) × (a .evaluations ≡ 0) × (a .number ≢ 0)
 
--- "Eager and lazy forms of one question, put at the same point, return the same set. From equal records the lazy form of a question
--- returns at most as many evaluations as the eager form of the same question, both by the documents' count."
 pub record BothForms (r : Record) (q : Question) : Type 0 where
+  -- "Eager and lazy forms of one question, put at the same point, return the same set."
   pub number : eager r q .number ≡ lazy r q .number
   pub set : eager r q .set ≡ lazy r q .set
+  -- "From equal records the lazy form of a question returns at most as many evaluations as the eager form of the same question, both
+  -- by the documents' count."
   pub evaluations : lazy r q .evaluations ≤ eager r q .evaluations
 
 -- what is said of one call, put to the record r beside the book

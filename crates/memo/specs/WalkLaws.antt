@@ -138,36 +138,33 @@ module _ (truth : ℕ → Bool) (r : Record) where
   all-reached [] m a = here
   all-reached (p ∷ ps) m a = from p (a .0) (all-reached ps (evaluated truth m (formulaOf r p)) (a .1))
 
-  all-values : (ps : List ℕ) (m : Memo) → All (λ p. p < r .«principal_count») ps
-      → All (λ p. value (evaluatedAll truth r m ps) (formulaOf r p) ≡ view truth m (formulaOf r p)) ps
+  -- of principal p's formula: its value is what m took it to be; it is known, if it has a place
+  abbrev Valued : Memo → Memo → ℕ → Type 0
+  Valued m after p = value after (formulaOf r p) ≡ view truth m (formulaOf r p)
+
+  abbrev Knows : Memo → Memo → ℕ → Type 0
+  Knows m after p = formulaOf r p < length (m .known) → known after (formulaOf r p) ≡ true
+
+  all-values : (ps : List ℕ) (m : Memo) → All (λ p. p < r .«principal_count») ps → All (Valued m (evaluatedAll truth r m ps)) ps
   unfolding evaluatedAll
   all-values [] m a = tt
   all-values (p ∷ ps) m a =
       let e = evaluates truth m (formulaOf r p) in
       let n : Memo = evaluated truth m (formulaOf r p) in
       let after : Memo = evaluatedAll truth r n ps in
-      let s : Same truth n after = reached-same truth r (all-reached ps n (a .1)) in (
-        s .settled (formulaOf r p) (e .is) ∙ s .views (formulaOf r p) ∙ e .same .views (formulaOf r p),
-        all-map (λ g. value after (formulaOf r g) ≡ view truth n (formulaOf r g)) (λ g. value after (formulaOf r g) ≡ view truth m (formulaOf r g)) ps
-            (λ g i. i ∙ e .same .views (formulaOf r g))
-            (all-values ps n (a .1)),
-      )
+      let s : Same truth n after = reached-same truth r (all-reached ps n (a .1)) in
+      let first : Valued m after p = s .settled (formulaOf r p) (e .is) ∙ s .views (formulaOf r p) ∙ e .same .views (formulaOf r p) in
+      (first, all-map (Valued n after) (Valued m after) ps (λ g i. i ∙ e .same .views (formulaOf r g)) (all-values ps n (a .1)))
 
-  all-known : (ps : List ℕ) (m : Memo) → All (λ p. p < r .«principal_count») ps
-      → All (λ p. formulaOf r p < length (m .known) → known (evaluatedAll truth r m ps) (formulaOf r p) ≡ true) ps
+  all-known : (ps : List ℕ) (m : Memo) → All (λ p. p < r .«principal_count») ps → All (Knows m (evaluatedAll truth r m ps)) ps
   unfolding evaluatedAll
   all-known [] m a = tt
   all-known (p ∷ ps) m a =
       let e = evaluates truth m (formulaOf r p) in
       let n : Memo = evaluated truth m (formulaOf r p) in
-      let after : Memo = evaluatedAll truth r n ps in (
-        λ l. reached-same truth r (all-reached ps n (a .1)) .keeps (formulaOf r p) (e .knows l),
-        all-map (λ g. formulaOf r g < length (n .known) → known after (formulaOf r g) ≡ true)
-            (λ g. formulaOf r g < length (m .known) → known after (formulaOf r g) ≡ true)
-            ps
-            (λ g i l. i (let w = e .same .knowns in omega arith))
-            (all-known ps n (a .1)),
-      )
+      let after : Memo = evaluatedAll truth r n ps in
+      let first : Knows m after p = λ l. reached-same truth r (all-reached ps n (a .1)) .keeps (formulaOf r p) (e .knows l) in
+      (first, all-map (Knows n after) (Knows m after) ps (λ g i l. i (let w = e .same .knowns in omega arith)) (all-known ps n (a .1)))
 
   module _ (m : Memo) where
     abbrev principals : List ℕ
@@ -182,16 +179,14 @@ module _ (truth : ℕ → Bool) (r : Record) where
     pub eager-reached : Reached truth r after-all m
     eager-reached = all-reached principals m principals-below
 
-    eager-values : All (λ p. value after-all (formulaOf r p) ≡ view truth m (formulaOf r p)) principals
+    eager-values : All (Valued m after-all) principals
     eager-values = all-values principals m principals-below
 
     pub eager-value : (p : ℕ) → p < r .«principal_count» → value after-all (formulaOf r p) ≡ view truth m (formulaOf r p)
-    eager-value = below-all (λ p. value after-all (formulaOf r p) ≡ view truth m (formulaOf r p)) (r .«principal_count») eager-values
+    eager-value = below-all (Valued m after-all) (r .«principal_count») eager-values
 
     pub eager-known : (p : ℕ) → p < r .«principal_count» → formulaOf r p < length (m .known) → known after-all (formulaOf r p) ≡ true
-    eager-known =
-        below-all (λ p. formulaOf r p < length (m .known) → known after-all (formulaOf r p) ≡ true) (r .«principal_count»)
-        (all-known principals m principals-below)
+    eager-known = below-all (Knows m after-all) (r .«principal_count») (all-known principals m principals-below)
 
   -- ---- the walk
 
@@ -230,8 +225,7 @@ module _ (truth : ℕ → Bool) (r : Record) where
       chosen-outcome after (firstOf (λ c. every (λ p. value after (formulaOf r p)) (members r c)) (candidates r k))
       ∙ first-ext (λ c. every (λ p. value after (formulaOf r p)) (members r c)) (λ c. passes m (members r c)) (candidates r k)
       (λ c. every-ext (λ p. value after (formulaOf r p)) (λ p. view truth m (formulaOf r p)) (members r c)
-      (all-those (λ p. value after (formulaOf r p) ≡ view truth m (formulaOf r p)) (λ p. member p c) (below (r .«principal_count»))
-      (eager-values m)))
+      (all-those (Valued m after) (λ p. member p c) (below (r .«principal_count»)) (eager-values m)))
       ∙ sym (walks (candidates r k) m)
     where
       after : Memo
