@@ -22,9 +22,9 @@ use Rattle.reading.specs.declared.Loaded.{Loaded}
 use Rattle.reading.specs.Body.{numbers}
 use Rattle.reading.specs.Loading.{Reading, atTop, misplaced, endWrong, lineRefusal, afterLine, notLoaded, afterLastLine, read, load}
 use Rattle.bundle.specs.Writing.{bundleOf}
-use Rattle.bundle.specs.FramedLaws.{Lines, lines-checked}
-use Rattle.bundle.specs.FramedLaws.Lines.{none, more}
-use Rattle.bundle.specs.FramedLaws.Checked.{refused-line, octets-line}
+use Rattle.reading.specs.FramedLaws.{Lines, lines-checked}
+use Rattle.reading.specs.FramedLaws.Lines.{none, more}
+use Rattle.reading.specs.FramedLaws.Checked.{refused-line, octets-line}
 use Rattle.bundle.specs.TakenLaws.{load-framed}
 use Rattle.bundle.specs.LoadWrite.{load-write}
 

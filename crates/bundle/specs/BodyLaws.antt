@@ -18,7 +18,7 @@ use Rattle.policy.specs.Table.{code, count, row}
 use Rattle.reading.specs.Body.{widths, values, numbers}
 use Rattle.bundle.specs.Writing.{body, lineOctets, tableLines}
 use Rattle.bundle.specs.Typed.{Fit, Typed}
-use Rattle.bundle.specs.FramedLaws.{Fine}
+use Rattle.reading.specs.FramedLaws.{Fine}
 
 -- ---- bodies
 

@@ -1,44 +1,23 @@
 -- The lines of a record that gets one line more: those it had, and that one.
-use Prim.Native.Nat.{ℕ, zero, suc, _+_, _≤_, _<_}
+use Prim.Native.Nat.{ℕ, suc, _+_, _≤_, _<_}
 use mathlib.Core.Path.{_≡_, refl, sym, _∙_, ap, subst}
 use mathlib.Core.List.{List, [], _∷_, _++_, map, map-append, append-assoc, append-nil}
 use mathlib.Core.Bool.{false}
 use native.Mathlib.Omega.{arith}
 use native.Mathlib.Decide.{decLt}
-use native.Mathlib.Numerals.{add-one}
 use lib.ListN.{length, drop}
 use borrow.Author.Tests.{ne-eqb}
 use Rattle.common.specs.Lists.{at, table}
 use Rattle.policy.specs.declared.Record.{Record}
 use Rattle.policy.specs.Table.{Kind, head, user, edge, formula, demarcation, hierarchy, principal, exclusion, prerequisite, method, end}
 use Rattle.policy.specs.Table.{code, isKind, kinds, count, columns, room, row, rows, blank, appended}
-use Rattle.policy.specs.TableLaws.{same-kind, ColumnLengths, count-other, columns-other, count-same, row-kept, new-row}
+use Rattle.policy.specs.TableLaws.{same-kind, ColumnLengths, count-other, columns-other}
 use Rattle.policy.specs.TableLaws as tables
 use Rattle.policy.specs.GrowthLaws.{blank-empty}
-use Rattle.reading.specs.Body.{widths, values}
+use Rattle.reading.specs.KindLaws.{rows-more}
 use Rattle.bundle.specs.Writing.{lineOctets, tableLines, ruleLines}
 
--- ---- rows
-
--- tables of the same rows
-table-same : {A : Type 0} (n : ℕ) (f g : ℕ → A) → ((i : ℕ) → i < n → f i ≡ g i) → table n f ≡ table n g
-table-same zero f g h = refl
-table-same (suc n) f g h = λ t. table-same n f g (λ i l. h i (omega arith)) t ++ (h n (omega arith) t ∷ [])
-
--- a line's body has as many numbers as its kind has columns
-pub as-many : (k : Kind) (r : Record) (b : List ℕ) → code k < 0xFF
-    → tables.values (columns k r) (values (widths k) b) 0 ≡ values (widths k) b
-as-many head r b l = refl
-as-many user r b l = refl
-as-many edge r b l = refl
-as-many formula r b l = refl
-as-many demarcation r b l = refl
-as-many hierarchy r b l = refl
-as-many principal r b l = refl
-as-many exclusion r b l = refl
-as-many prerequisite r b l = refl
-as-many method r b l = refl
-as-many end r b l = absurd (omega arith)
+-- ---- lines
 
 -- another kind's lines stay
 lines-other : (k j : Kind) (r : Record) (v : List ℕ) → isKind k j ≡ false → tableLines j (appended k r v) ≡ tableLines j r
@@ -79,15 +58,9 @@ no-lines r n (j ∷ ks) c h =
 
 module _ (k : Kind) (r : Record) (v : List ℕ) (low : 1 < code k) (high : code k < 0xFF) (s : ColumnLengths r) (few : count k r < room k)
     (empty : (j : Kind) → code k < code j → count j r ≡ 0) (all : tables.values (columns k r) v 0 ≡ v) where
-  -- kind k's own rows and lines
-  rows-more : rows k (appended k r v) ≡ rows k r ++ (v ∷ [])
-  rows-more =
-      ap (λ (n : ℕ). table n (λ i. row k i (appended k r v))) (count-same k r v low high ∙ add-one (count k r))
-      ∙ (λ t. table-same (count k r) (λ i. row k i (appended k r v)) (λ i. row k i r) (λ i l. row-kept k r v low k i l) t ++
-      ((new-row k r v low high s few ∙ all) t ∷ []))
-
+  -- kind k's own lines
   table-more : tableLines k (appended k r v) ≡ tableLines k r ++ (lineOctets k v ∷ [])
-  table-more = ap (map (lineOctets k)) rows-more ∙ map-append (lineOctets k) (rows k r) (v ∷ [])
+  table-more = ap (map (lineOctets k)) (rows-more k r v low high s few all) ∙ map-append (lineOctets k) (rows k r) (v ∷ [])
 
   empty-still : (j : Kind) → code k < code j → count j (appended k r v) ≡ 0
   empty-still j l = count-other k j r v (ne-eqb (code k) (code j) (λ e. omega arith)) ∙ empty j l

@@ -18,12 +18,15 @@ use Rattle.reading.specs.Loading.{Reading, atTop, lineRefusal, afterLine, read,
 use Rattle.reading.specs.LoadingLaws.{Taken, taken, Sound, sound-top, sound-more, end-kept, Sort, sort}
 use Rattle.reading.specs.LoadingLaws.Sort.{is-head, is-end, between}
 use Rattle.bundle.specs.Writing.{lineOctets, ruleLines, withEnd, bundleOf}
-use Rattle.bundle.specs.FramedLaws.{Fine, Lines, lines-checked, octetLines, text-again}
-use Rattle.bundle.specs.FramedLaws.Lines.{none, more}
-use Rattle.bundle.specs.FramedLaws.Checked.{refused-line, octets-line}
+use Rattle.reading.specs.FramedLaws.{Fine, Lines, lines-checked}
+use Rattle.bundle.specs.FramedLaws.{octetLines, text-again}
+use Rattle.reading.specs.FramedLaws.Lines.{none, more}
+use Rattle.reading.specs.FramedLaws.Checked.{refused-line, octets-line}
 use Rattle.bundle.specs.BodyLaws.{line-again}
-use Rattle.bundle.specs.GrownLaws.{as-many, lines-more, lines-first}
-use Rattle.bundle.specs.TakenLaws.{read-taken, end-taken, taken-end, taken-head, load-framed}
+use Rattle.reading.specs.KindLaws.{as-many}
+use Rattle.bundle.specs.GrownLaws.{lines-more, lines-first}
+use Rattle.reading.specs.TakenLaws.{read-taken, end-taken}
+use Rattle.bundle.specs.TakenLaws.{taken-end, taken-head, load-framed}
 
 totals-append : (ls ms : List (List ℕ)) → totals (ls ++ ms) ≡ totals ls + totals ms
 totals-append [] ms = omega arith

@@ -1,62 +1,31 @@
 -- What a load's number says: where it is 0, every line was accepted and taken.
-use Prim.Native.Nat.{ℕ, _+_}
+use Prim.Native.Nat.{ℕ}
 use mathlib.Core.Path.{_≡_, refl, sym, _∙_, ap}
-use mathlib.Core.Bool.{Bool, true, false, not, cond, _&&_, _||_}
+use mathlib.Core.Bool.{true, false, not, _&&_}
 use mathlib.Core.List.{List, [], _∷_}
 use native.Mathlib.Omega.{arith}
 use lib.Dec.{eqb}
-use borrow.Author.Tests.{eqb-true, eqb-false, not-false}
+use borrow.Author.Tests.{eqb-true, not-false}
 use Rattle.common.specs.Lists.{at, every}
 use Rattle.common.specs.BoolLaws.{and-cases}
 use Rattle.common.specs.Causes.{cause}
 use Rattle.common.specs.Refusals.{wrongKind, wrongEnd}
-use Rattle.common.specs.Refusals as refusals
-use Rattle.closure.specs.Closure.{circular}
-use Rattle.octets.specs.Line.{Framed, octets, kindOctet}
+use Rattle.octets.specs.Line.{Framed, kindOctet}
 use Rattle.octets.specs.Damage.{isAccepted, wellFramed}
 use Rattle.policy.specs.declared.Record.{Record}
-use Rattle.policy.specs.Table.{head, hierarchy, prerequisite, end, kindOf, rows}
+use Rattle.policy.specs.Table.{head, end, kindOf}
 use Rattle.policy.specs.Rows.{inRange, rowCauses, rowRefusal}
 use Rattle.policy.specs.RowLaws.{passed}
 use Rattle.reading.specs.declared.Loaded.{Loaded}
 use Rattle.reading.specs.Body.{numbers}
-use Rattle.reading.specs.Loading.{Reading, atTop, misplaced, endWrong, lineRefusal, afterLine, notLoaded, afterLastLine, read, load}
+use Rattle.reading.specs.Loading.{Reading, atTop, misplaced, endWrong, lineRefusal, afterLine, read, load}
 use Rattle.reading.specs.LoadingLaws.{none-first}
-use Rattle.bundle.specs.FramedLaws.{Lines, lines-checked}
-use Rattle.bundle.specs.FramedLaws.Lines.{none, more}
-use Rattle.bundle.specs.FramedLaws.Checked.{refused-line, octets-line}
+use Rattle.reading.specs.FramedLaws.{Lines, lines-checked}
+use Rattle.reading.specs.FramedLaws.Lines.{none, more}
+use Rattle.reading.specs.FramedLaws.Checked.{refused-line, octets-line}
+use Rattle.reading.specs.TakenLaws.{read-taken}
 
 -- ---- one line
-
--- the line is taken, and the rest is read after it
-pub read-taken : (t : Reading) (os : List ℕ) (ls : List Framed) → read t (octets os ∷ ls) .number ≡ 0
-    → (lineRefusal t (kindOf (kindOctet os)) os ≡ 0) × (read t (octets os ∷ ls) ≡ read (afterLine t (kindOf (kindOctet os)) os) ls)
-unfolding read
-read-taken t os ls e₀ = go (eqb (lineRefusal t (kindOf (kindOctet os)) os) 0) refl (read (afterLine t (kindOf (kindOctet os)) os) ls) e₀
-  where
-    go : (x : Bool) → eqb (lineRefusal t (kindOf (kindOctet os)) os) 0 ≡ x → (l : Loaded)
-        → cond x l (notLoaded (lineRefusal t (kindOf (kindOctet os)) os) (t .lines + 1)) .number ≡ 0
-        → (lineRefusal t (kindOf (kindOctet os)) os ≡ 0)
-        × (cond x l (notLoaded (lineRefusal t (kindOf (kindOctet os)) os) (t .lines + 1)) ≡ l)
-    go true p l e = (eqb-true _ _ p, refl)
-    go false p l e = absurd (eqb-false _ _ p e)
-
--- after the last line: the end line was read, and the record is handed over
-pub end-taken : (t : Reading) → afterLastLine t .number ≡ 0 → (t .last ≡ 0xFF) × (afterLastLine t .rules ≡ t .rules)
-unfolding afterLastLine
-end-taken t = go (eqb (t .last) 0xFF) (circular (rows hierarchy (t .rules)) || circular (rows prerequisite (t .rules))) refl
-  where
-    go : (x y : Bool) → eqb (t .last) 0xFF ≡ x
-        → cond (not x) (notLoaded wrongEnd (t .lines + 1))
-        (cond y (notLoaded refusals.circle (t .lines)) (record { number = 0; line = 0; rules = t .rules })) .number
-        ≡ 0
-        → (t .last ≡ 0xFF)
-        × (cond (not x) (notLoaded wrongEnd (t .lines + 1))
-        (cond y (notLoaded refusals.circle (t .lines)) (record { number = 0; line = 0; rules = t .rules })) .rules
-        ≡ t .rules)
-    go false y p n = absurd (omega arith)
-    go true true p n = absurd (omega arith)
-    go true false p n = (eqb-true _ _ p, refl)
 
 -- a taken end line's numbers are the count of the lines before it, and their sum
 pub taken-end : (t : Reading) (os : List ℕ) → lineRefusal t end os ≡ 0

@@ -5,9 +5,10 @@ use mathlib.Core.List.{List, [], _∷_}
 use mathlib.Core.Option.{Option, none, some}
 use lib.ListN.{length}
 use lib.Dec.{leb, eqb}
-use Rattle.common.specs.Lists.{any, those, same}
+use Rattle.common.specs.Lists.{at, any, those, same}
 use Rattle.common.specs.Causes.{cause, first}
 use Rattle.common.specs.Refusals.{edgeOutOfRange, edgePresent, edgeAbsent, edgesFull, noMethod, noObject, notUser, noSet}
+use Rattle.octets.specs.Line.{Framed, refused, octets, kindOctet, bodyOf, lines}
 use Rattle.rows.specs.Checks.{edgeInRange}
 use Rattle.policy.specs.declared.Record.{Record}
 use Rattle.policy.specs.declared.Edited.{Edited}
@@ -36,6 +37,16 @@ plain n = record { number = n; set = 0 }
 
 abbrev pub Book : Type 0
 Book = List (List ℕ)
+
+-- "at first those of the edge lines": label, from and to of the lines of kind 03, which are the octets of their bodies
+abbrev pub edgeLines : List Framed → Book
+edgeLines [] = []
+edgeLines (refused n ∷ ls) = edgeLines ls
+edgeLines (octets os ∷ ls) =
+    cond (eqb (kindOctet os) 0x03) ((at (bodyOf os) 0 ∷ at (bodyOf os) 1 ∷ at (bodyOf os) 2 ∷ []) ∷ edgeLines ls) (edgeLines ls)
+
+abbrev pub firstBook : List ℕ → Book
+firstBook text = edgeLines (lines text)
 
 abbrev pub holdsEdge : Book → List ℕ → Bool
 holdsEdge book e = any (same e) book

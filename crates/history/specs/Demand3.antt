@@ -1,7 +1,8 @@
 -- Demand 3, word by word. A record just loaded from a bundle, and any list of edge additions, edge removals, eager and lazy
 -- questions, refused ones included: each call gets the record that the calls before it left. Beside the engine goes the edge book,
--- which is given the bundle's record and each call's kind and arguments, and nothing that the engine answers or holds.
-use Prim.Native.Nat.{ℕ, _^_, _<_}
+-- which starts with the text's edge lines and is given the bundle's record and each call's kind and arguments, and nothing that the
+-- engine answers or holds.
+use Prim.Native.Nat.{ℕ, _^_, _≤_, _<_}
 use mathlib.Core.Path.{_≡_}
 use mathlib.Core.Logic.{_↔_, _≢_}
 use mathlib.Core.Bool.{true}
@@ -9,16 +10,17 @@ use mathlib.Core.List.{List, [], _∷_}
 use Rattle.common.specs.Refusals.{noSet}
 use Rattle.common.specs.Sets.{In}
 use Rattle.policy.specs.declared.Record.{Record}
-use Rattle.policy.specs.Table.{edge, rows}
 use Rattle.policy.specs.Edits.{added, removed}
 use Rattle.formula.specs.Formula.{isUser}
 use Rattle.search.specs.Search.{Before}
 use Rattle.justification.specs.declared.Question.{Question}
 use Rattle.justification.specs.Justification.{members, meets, consistent}
+use Rattle.memo.specs.Memo.{memoFor, newly}
 use Rattle.reading.specs.Loading.{load}
 use Rattle.access.specs.declared.Answer.{Answer}
 use Rattle.access.specs.Access.{eager, lazy}
-use Rattle.history.specs.Book.{Call, add, remove, askEagerly, askLazily, Book, holdsEdge, enabledIn, bookAfterCall, engineLeaves}
+use Rattle.history.specs.Book.{Call, add, remove, askEagerly, askLazily, Book, firstBook, holdsEdge, enabledIn, bookAfterCall}
+use Rattle.history.specs.Book.{engineLeaves}
 
 -- the book changes: some edge is in the one and not in the other
 abbrev pub Changes : Book → Book → Type 0
@@ -51,28 +53,33 @@ pub record QuestionHolds (b : Record) (book : Book) (q : Question) (r : Record) 
   pub empty : Known b q → a .number ≡ noSet → a .set ≡ 0
   pub granted : Known b q → a .number ≢ noSet
       → (a .number ≡ 0) × Satisfies b book q (a .set) × ((c : ℕ) → Satisfies b book q c → Before (a .set) c)
-  pub refused : (Known b q → ⊥) → (a .rules ≡ r) × (a .set ≡ 0) × (a .number ≢ 0)
+  -- "the documents' count": "the number of formulas known after and not known before (before is counted after the emptying)"
+  pub counted : Known b q → a .evaluations ≡ newly (memoFor (r .memo) q) (a .rules .memo)
+  pub refused : (Known b q → ⊥) → (a .rules ≡ r) × (a .set ≡ 0) × (a .evaluations ≡ 0) × (a .number ≢ 0)
 
--- "Eager and lazy forms of one question, put at the same point, return the same set."
-pub record SameSet (r : Record) (q : Question) : Type 0 where
+pub record BothForms (r : Record) (q : Question) : Type 0 where
+  -- "Eager and lazy forms of one question, put at the same point, return the same set."
   pub number : eager r q .number ≡ lazy r q .number
   pub set : eager r q .set ≡ lazy r q .set
+  -- "From equal records the lazy form of a question returns at most as many evaluations as the eager form of the same question, both
+  -- by the documents' count."
+  pub evaluations : lazy r q .evaluations ≤ eager r q .evaluations
 
 -- what is said of one call, put to the record r beside the book
 abbrev pub CallHolds : Record → Book → Record → Call → Type 0
 CallHolds b book r (add l x y) = EditHolds book (bookAfterCall b book (add l x y)) (added r l x y .number) r (added r l x y .rules)
 CallHolds b book r (remove l x y) =
     EditHolds book (bookAfterCall b book (remove l x y)) (removed r l x y .number) r (removed r l x y .rules)
-CallHolds b book r (askEagerly q) = QuestionHolds b book q r (eager r q) × SameSet r q
-CallHolds b book r (askLazily q) = QuestionHolds b book q r (lazy r q) × SameSet r q
+CallHolds b book r (askEagerly q) = QuestionHolds b book q r (eager r q) × BothForms r q
+CallHolds b book r (askLazily q) = QuestionHolds b book q r (lazy r q) × BothForms r q
 
 -- of a whole list: of its first call, and of the others on the record that it left, beside the book after it
 abbrev pub ListHolds : Record → Book → Record → List Call → Type 0
 ListHolds b book r [] = Unit {0}
 ListHolds b book r (c ∷ cs) = CallHolds b book r c × ListHolds b (bookAfterCall b book c) (engineLeaves r c) cs
 
--- of every text that loads, and every list of calls; the book starts with the edges of the edge lines
+-- of every text that loads, and every list of calls: "Its state is a set of edges, at first those of the edge lines."
 abbrev pub Demand3 : Type 0
 Demand3 =
     (text : List ℕ) → load text .number ≡ 0 → (calls : List Call)
-    → ListHolds (load text .rules) (rows edge (load text .rules)) (load text .rules) calls
+    → ListHolds (load text .rules) (firstBook text) (load text .rules) calls

@@ -1,10 +1,10 @@
 -- An edit of a record that agrees the book: it is answered as the book answers it, and the record left agrees the book left.
-use Prim.Native.Nat.{ℕ, zero, suc, _+_, _<_, _≤_}
+use Prim.Native.Nat.{ℕ, suc, _+_, _<_, _≤_}
 use mathlib.Core.Path.{_≡_, refl, sym, _∙_, ap, subst⁻¹}
 use mathlib.Core.Bool.{Bool, true, false, false≢true, not, cond, _&&_, _||_}
 use mathlib.Core.List.{List, [], _∷_}
 use native.Mathlib.Omega.{arith}
-use lib.ListN.{length, getD, replicate}
+use lib.ListN.{length}
 use lib.Dec.{ltb, leb, eqb}
 use borrow.Author.Tests.{eqb-true}
 use Rattle.common.specs.Lists.{same}
@@ -24,9 +24,9 @@ use Rattle.policy.specs.Edits.{edgeIn, inserted, without, edited, added, remove
 use Rattle.policy.specs.EdgeLaws.{Rising, key-other, loadable-rising, inserted-length, without-none}
 use Rattle.policy.specs.EdgeLaws as rising
 use Rattle.policy.specs.EditLaws.{adds, added-when, added-rows, added-loadable, removes, removed-when, removed-rows, removed-loadable}
-use Rattle.memo.specs.Memo.{known}
 use Rattle.memo.specs.WalkLaws.{MemoLengths}
 use Rattle.access.specs.CorrectMemo.{CorrectMemo}
+use Rattle.access.specs.CorrectMemoLaws.{emptied-correct}
 use Rattle.history.specs.Book.{Book, holdsEdge, add, remove, addRefusal, removeRefusal, bookAfterCall}
 use Rattle.policy.specs.TableLaws.{ColumnLengths}
 use Rattle.policy.specs.LoadableLaws.{table-few, loadable-table}
@@ -110,11 +110,6 @@ distinct-rows r loads = rising-distinct (loadable-rising r loads)
 
 -- ---- a record with other edges and an emptied memo
 
-nowhere : (n f : ℕ) → getD (replicate n false) f false ≡ false
-nowhere zero f = refl
-nowhere (suc n) zero = refl
-nowhere (suc n) (suc f) = nowhere n f
-
 rest-changed : (r : Record) (es fs : List (List ℕ)) (m : Memo) → changed (changed r es m) fs m ≡ changed r fs m
 unfolding changed
 rest-changed r es fs m = refl
@@ -134,13 +129,6 @@ objects-kept r b m e = ap (λ (q : Record). q .objects) e
 pub emptied-lengths : MemoLengths (emptied 0 0)
 unfolding emptied
 emptied-lengths = record { knowns = refl; values = refl }
-
-emptied-unknown : (f : ℕ) → known (emptied 0 0) f ≡ false
-unfolding emptied
-emptied-unknown f = nowhere 64 f
-
-pub emptied-correct : (r : Record) → CorrectMemo r (emptied 0 0)
-emptied-correct r = record { values = λ f e. absurd (false≢true (sym (emptied-unknown f) ∙ e)) }
 
 module _ (r : Record) (n : ℕ) (es : List (List ℕ)) (m : Memo) where
   edited-number : edited r n es m .number ≡ n
@@ -174,7 +162,7 @@ module _ (b : Record) (book : Book) (r : Record) (h : Agrees b book r) where
         rest = ap (λ (q : Record). changed q [] (emptied 0 0)) is ∙ rest-changed r es [] (emptied 0 0) ∙ h .rest;
         sized = subst⁻¹ ColumnLengths is (sized-changed r es (emptied 0 0) small (h .sized));
         lengths = subst⁻¹ MemoLengths memo emptied-lengths;
-        correct = subst⁻¹ (CorrectMemo s) memo (emptied-correct s);
+        correct = subst⁻¹ (CorrectMemo s) memo (emptied-correct s 0 0);
       }
 
   module _ (l x y : ℕ) where

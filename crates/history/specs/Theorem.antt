@@ -1,4 +1,4 @@
--- THE THEOREM of demand 3, over every loaded text and every list of calls; and that lazy evaluates no more than eager.
+-- THE THEOREM of demand 3, over every loaded text and every list of calls.
 use Prim.Native.Nat.{ℕ, _^_, _<_}
 use mathlib.Core.Path.{_≡_, refl, sym, _∙_, ap, subst}
 use mathlib.Core.Logic.{_↔_, _≢_}
@@ -18,28 +18,34 @@ use Rattle.common.specs.Refusals.{edgeOutOfRange, edgePresent, edgeAbsent, edge
 use Rattle.common.specs.Sets.{member}
 use Rattle.common.specs.SetLaws.{member-in, in-member, in-lt}
 use Rattle.policy.specs.declared.Record.{Record}
-use Rattle.policy.specs.Table.{edge, row, rows}
+use Rattle.policy.specs.Table.{edge, row}
 use Rattle.rows.specs.Checks.{edgeInRange}
 use Rattle.policy.specs.Edits.{without, added, removed}
 use Rattle.formula.specs.Formula.{isUser}
 use Rattle.justification.specs.declared.Question.{Question}
 use Rattle.justification.specs.Justification.{members, meets, consistent, least}
+use Rattle.justification.specs.Predicates.{questionRefusal}
 use Rattle.justification.specs.Order.{IsLeast}
 use Rattle.justification.specs.OrderFact as order
 use Rattle.reading.specs.Loading.{load}
 use Rattle.reading.specs.LoadingLaws.{as-loaded}
 use Rattle.access.specs.declared.Answer.{Answer}
 use Rattle.access.specs.Access.{refused, eager, lazy}
+use Rattle.access.specs.AccessLaws.{eager-counts, lazy-counts, same-always, lazy-at-most}
 use Rattle.access.specs.CorrectMemo.{CorrectMemo}
+use Rattle.access.specs.CorrectMemoLaws.{emptied-correct}
+use Rattle.memo.specs.Memo.{memoFor, newly}
 use Rattle.memo.specs.WalkLaws.{MemoLengths}
 use Rattle.search.specs.Search.{Before}
-use Rattle.history.specs.Book.{Call, add, remove, askEagerly, askLazily, Book, BookAnswer, holdsEdge, addRefusal, removeRefusal}
+use Rattle.history.specs.Book.{Call, add, remove, askEagerly, askLazily, Book, BookAnswer, firstBook, holdsEdge}
+use Rattle.history.specs.Book.{addRefusal, removeRefusal}
 use Rattle.history.specs.Book.{askRefusal, verdict, enabledIn, ask, bookAfterCall, numberAndSet, engineLeaves}
-use Rattle.history.specs.Agrees.{Agrees}
+use Rattle.history.specs.Agrees.{Distinct, Agrees}
 use Rattle.history.specs.EditAgrees.{distinct-rows, add-number, add-agrees, add-refused, remove-number, remove-agrees, remove-refused}
-use Rattle.history.specs.EditAgrees.{emptied-lengths, emptied-correct, without-holds}
+use Rattle.history.specs.EditAgrees.{emptied-lengths, without-holds}
 use Rattle.history.specs.AskAgrees.{refusal-is, eager-answer, eager-agrees, eager-refused, lazy-answer, lazy-agrees, lazy-refused}
-use Rattle.history.specs.Demand3.{Changes, EditHolds, Known, Satisfies, QuestionHolds, SameSet, CallHolds, ListHolds, Demand3}
+use Rattle.history.specs.FirstBook.{first-edges}
+use Rattle.history.specs.Demand3.{Changes, EditHolds, Known, Satisfies, QuestionHolds, BothForms, CallHolds, ListHolds, Demand3}
 
 -- ---- edits
 
@@ -189,9 +195,11 @@ module _ (b : Record) (book : Book) (r : Record) (h : Agrees b book r) where
           go (some c) n x = (refl, passes-satisfies c (n .0) (n .1), λ d w. n .2 d (w .grounds) (satisfies-passes d w))
 
     -- of any answer that is the book's reply
-    question-holds : (a : Answer) → numberAndSet a ≡ ask b book q → (askRefusal b q ≢ 0 → a ≡ refused (askRefusal b q) r)
+    question-holds : (a : Answer) → numberAndSet a ≡ ask b book q
+        → (questionRefusal r q ≡ 0 → a .evaluations ≡ newly (memoFor (r .memo) q) (a .rules .memo))
+        → (askRefusal b q ≢ 0 → a ≡ refused (askRefusal b q) r)
         → QuestionHolds b book q r a
-    question-holds a e other =
+    question-holds a e count other =
         record {
           denied =
               λ k. subst (λ (v : BookAnswer). (v .number ≡ noSet) ↔ ((c : ℕ) → Satisfies b book q c → ⊥)) (sym (is-verdict k))
@@ -203,10 +211,12 @@ module _ (b : Record) (book : Book) (r : Record) (h : Agrees b book r) where
               λ k. subst (λ (v : BookAnswer). v .number ≢ noSet → (v .number ≡ 0) × Satisfies b book q (v .set) ×
               ((c : ℕ) → Satisfies b book q c → Before (v .set) c)) (sym (is-verdict k))
               (verdict-granted (least b (q .method) (enabledIn b book q)) least-passes);
+          counted = λ k. count (refusal-is b book r h q ∙ known-asked k);
           refused =
               λ n. (
                 ap (λ (x : Answer). x .rules) (turned n),
                 ap (λ (x : Answer). x .set) (turned n),
+                ap (λ (x : Answer). x .evaluations) (turned n),
                 λ z. n
                     (asked-known (sym (ap (λ (x : Answer). x .number) (turned n)) ∙ z)),
               );
@@ -220,24 +230,24 @@ module _ (b : Record) (book : Book) (r : Record) (h : Agrees b book r) where
 
     eager-holds : QuestionHolds b book q r (eager r q)
     eager-holds =
-        question-holds (eager r q) (eager-answer b book r h q)
+        question-holds (eager r q) (eager-answer b book r h q) (eager-counts r q)
         (λ z. eager-refused b book r h q (askRefusal b q) (sym (refusal-is b book r h q)) z)
 
     lazy-holds : QuestionHolds b book q r (lazy r q)
     lazy-holds =
-        question-holds (lazy r q) (lazy-answer b book r h q)
+        question-holds (lazy r q) (lazy-answer b book r h q) (lazy-counts r q)
         (λ z. lazy-refused b book r h q (askRefusal b q) (sym (refusal-is b book r h q)) z)
 
-    same-set : SameSet r q
-    same-set =
-        let e : numberAndSet (eager r q) ≡ numberAndSet (lazy r q) = eager-answer b book r h q ∙ sym (lazy-answer b book r h q) in
-        record { number = ap (λ (v : BookAnswer). v .number) e; set = ap (λ (v : BookAnswer). v .set) e }
+    both-forms : BothForms r q
+    both-forms =
+        let s = same-always r q in
+        record { number = s .number; set = s .set; evaluations = lazy-at-most r q }
 
   pub call-holds : (c : Call) → CallHolds b book r c
   call-holds (add l x y) = add-holds l x y
   call-holds (remove l x y) = remove-holds l x y
-  call-holds (askEagerly q) = (eager-holds q, same-set q)
-  call-holds (askLazily q) = (lazy-holds q, same-set q)
+  call-holds (askEagerly q) = (eager-holds q, both-forms q)
+  call-holds (askLazily q) = (lazy-holds q, both-forms q)
 
   pub call-agrees : (c : Call) → Agrees b (bookAfterCall b book c) (engineLeaves r c)
   unfolding bookAfterCall engineLeaves
@@ -253,21 +263,22 @@ list-holds b [] book r h = tt
 list-holds b (c ∷ cs) book r h =
     (call-holds b book r h c, list-holds b cs (bookAfterCall b book c) (engineLeaves r c) (call-agrees b book r h c))
 
--- a record just loaded agrees the book of its own edges
-pub start : (text : List ℕ) → load text .number ≡ 0 → Agrees (load text .rules) (rows edge (load text .rules)) (load text .rules)
+-- a record just loaded agrees the book of its edge lines
+pub start : (text : List ℕ) → load text .number ≡ 0 → Agrees (load text .rules) (firstBook text) (load text .rules)
 start text e =
     let g = as-loaded text e in
     let r = load text .rules in
+    let same = first-edges text e in
     record {
       loads = g .loads;
-      edges = λ d. refl;
-      count = sym (length-table (r .«edge_count») (λ i. row edge i r));
-      once = distinct-rows r (g .loads);
+      edges = λ d. ap (λ (es : Book). holdsEdge es d) same;
+      count = sym (length-table (r .«edge_count») (λ i. row edge i r)) ∙ ap length same;
+      once = subst Distinct same (distinct-rows r (g .loads));
       rest = refl;
       sized = g .sized;
       lengths = subst MemoLengths (sym (g .memo)) emptied-lengths;
-      correct = subst (CorrectMemo r) (sym (g .memo)) (emptied-correct r);
+      correct = subst (CorrectMemo r) (sym (g .memo)) (emptied-correct r 0 0);
     }
 
 pub demand-3 : Demand3
-demand-3 text e calls = list-holds (load text .rules) calls (rows edge (load text .rules)) (load text .rules) (start text e)
+demand-3 text e calls = list-holds (load text .rules) calls (firstBook text) (load text .rules) (start text e)

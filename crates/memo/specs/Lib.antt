@@ -1,4 +1,6 @@
 pub mod Memo
 pub mod Walk
+pub mod AllLaws
+pub mod EvaluatedLaws
 pub mod WalkLaws
 pub mod StepLaws

@@ -7,7 +7,6 @@ use mathlib.Core.Option.{Option, none, some}
 use native.Mathlib.Omega.{arith}
 use native.Mathlib.Numerals.{add-one}
 use lib.Dec.{eqb}
-use Rattle.common.specs.Limits.{mostFormulas}
 use Rattle.common.specs.Lists.{every, below}
 use Rattle.common.specs.Sets.{member}
 use Rattle.policy.specs.declared.Record.{Record}
@@ -20,13 +19,10 @@ use Rattle.justification.specs.Justification.{members, candidates, least}
 use Rattle.policy.specs.NamedLaws.{principal-named}
 use Rattle.memo.specs.Memo.{known, value, noted, evaluated, memoFor}
 use Rattle.memo.specs.Walk.{formulaOf, evaluatedAll, Weighed, ends, tried, knownFalse, afterWeighing, tryNext, searching}
-use Rattle.memo.specs.WalkLaws.{All, all-those, all-append, every-ext, first-ext, MemoLengths, FormulasInMemo}
+use Rattle.memo.specs.AllLaws.{All, all-those, all-below, every-ext, first-ext}
+use Rattle.memo.specs.WalkLaws.{MemoLengths, FormulasInMemo}
 
 -- ---- lists
-
-pub all-below : (P : ℕ → Type 0) (n : ℕ) → ((i : ℕ) → i < n → P i) → All P (below n)
-all-below P zero h = tt
-all-below P (suc n) h = all-append P (below n) (n ∷ []) (all-below P n (λ i l. h i (omega arith))) (h n (omega arith), tt)
 
 -- the least set depends only on which principals pass
 pub least-all : (r : Record) (k : ℕ) (a b : ℕ → Bool) → All (λ p. a p ≡ b p) (below (r .«principal_count»)) → least r k a ≡ least r k b
@@ -41,10 +37,8 @@ least-ext r k a b h = least-all r k a b (all-below (λ p. a p ≡ b p) (r .«pri
 -- ---- the memo
 
 -- every principal of a record whose tables load names a formula that has a place
-pub formulas-in-memo : (r : Record) → ((j : Kind) → tableLoads r j ≡ true) → FormulasInMemo r (below (r .«principal_count»))
-formulas-in-memo r loads =
-    all-below (λ p. formulaOf r p < mostFormulas) (r .«principal_count»)
-    (λ p l. let (f, d) = principal-named r loads p l in let few = table-few r formula (loads formula) in omega arith)
+pub formulas-in-memo : (r : Record) → ((j : Kind) → tableLoads r j ≡ true) → FormulasInMemo r
+formulas-in-memo r loads p l = let (f, d) = principal-named r loads p l in let few = table-few r formula (loads formula) in omega arith
 
 pub lengths-for : (m : Memo) (q : Question) → MemoLengths m → MemoLengths (memoFor m q)
 unfolding memoFor emptied

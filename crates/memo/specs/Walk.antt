@@ -30,6 +30,11 @@ abbrev pub chosen : Outcome → Option ℕ
 chosen (granted c m) = some c
 chosen (denied m) = none
 
+-- the memo that is left
+abbrev pub left : Outcome → Memo
+left (granted c m) = m
+left (denied m) = m
+
 -- ---- eager: each principal in rising number has its formula evaluated unless known; then the least set of enabled principals
 
 unfoldable pub evaluatedAll : (ℕ → Bool) → Record → Memo → List ℕ → Memo

@@ -12,11 +12,8 @@ use Rattle.octets.specs.Answers.{octetAt}
 use Rattle.octets.specs.Number.{number}
 use Rattle.policy.specs.Table.{Kind}
 use Rattle.reading.specs.Body.{widths, values, numbers}
+use Rattle.reading.specs.KindLaws.{table-same}
 use Rattle.lines.specs.NextLine.{numberAt}
-
-table-same : (n : ℕ) (f g : ℕ → ℕ) → ((i : ℕ) → i < n → f i ≡ g i) → table n f ≡ table n g
-table-same zero f g h = refl
-table-same (suc n) f g h = λ j. table-same n f g (λ i l. h i (omega arith)) j ++ (h n (omega arith) j ∷ [])
 
 -- a part of a list, number by number
 part-table : (l : List ℕ) (k w : ℕ) → k + w ≤ length l → take w (drop k l) ≡ table w (λ i. at l (k + i))

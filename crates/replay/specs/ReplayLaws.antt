@@ -4,10 +4,9 @@ use Prim.Native.Nat.{ℕ, zero, suc}
 use mathlib.Core.Path.{_≡_, refl, sym, _∙_, ap, subst}
 use mathlib.Core.List.{List, [], _∷_, _++_}
 use Rattle.policy.specs.declared.Record.{Record}
-use Rattle.policy.specs.Table.{edge, rows}
 use Rattle.reading.specs.Loading.{load}
-use Rattle.history.specs.Book.{Call, add, remove, askEagerly, askLazily, Book, plain, bookAfterCall, bookAnswer, bookAfter, numberAndSet}
-use Rattle.history.specs.Book.{engineLeaves, engineAfter}
+use Rattle.history.specs.Book.{Call, add, remove, askEagerly, askLazily, Book, plain, firstBook, bookAfterCall, bookAnswer, bookAfter}
+use Rattle.history.specs.Book.{numberAndSet, engineLeaves, engineAfter}
 use Rattle.history.specs.Agrees.{Agrees}
 use Rattle.history.specs.EditAgrees.{add-number, remove-number}
 use Rattle.history.specs.AskAgrees.{eager-answer, lazy-answer}
@@ -73,10 +72,10 @@ module _ (text : List ℕ) (loads : load text .number ≡ 0) (calls : List ℕ) 
   b = load text .rules
 
   abbrev book : Book
-  book = bookAfter b (rows edge b) (callsBefore calls n)
+  book = bookAfter b (firstBook text) (callsBefore calls n)
 
   agrees : Agrees b book (leftAfter b calls n)
-  agrees = subst (Agrees b book) (sym (left-is b calls n)) (list-agrees b (callsBefore calls n) (rows edge b) b (start text loads))
+  agrees = subst (Agrees b book) (sym (left-is b calls n)) (list-agrees b (callsBefore calls n) (firstBook text) b (start text loads))
 
   -- what demand 3 says of any call put at that point
   pub point-holds : (c : Call) → CallHolds b book (leftAfter b calls n) c
