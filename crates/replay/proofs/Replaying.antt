@@ -1,4 +1,4 @@
--- The loop of `replay`: the answers so far stand first, and the rest of the buffer is as it was.
+-- The loop of `answer_all`: the answers so far stand first, and the rest of the buffer is as it was.
 use Prim.Native.Nat.{ℕ, zero, suc, _+_, _*_, _/_, _≤_, _<_, min}
 use mathlib.Core.Path.{_≡_, refl, sym, _∙_, ap}
 use mathlib.Core.List.{List, _++_, append-assoc}
@@ -91,3 +91,8 @@ module _ {calls buffer₀ : List ℕ} {r₀ : Record} {n : ℕ} {buffer : List �
   replaying-end l e =
       let m : i ≡ answeredCount calls buffer₀ = let z = w .within in omega arith in
       w .bytes ∙ (λ j. replies r₀ calls (m j) ++ drop (5 * m j) buffer₀)
+
+  pub replaying-left : n ≤ i → n ≡ answeredCount calls buffer₀ → r ≡ leftAfter r₀ calls (answeredCount calls buffer₀)
+  replaying-left l e =
+      let m : i ≡ answeredCount calls buffer₀ = let z = w .within in omega arith in
+      w .left ∙ (λ j. leftAfter r₀ calls (m j))
