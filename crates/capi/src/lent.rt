@@ -48,7 +48,8 @@ pub extern "C" fn access_load(rules: &mut Record, bundle: &[u8]) -> u64
 // The count of answers.
 #[no_mangle]
 pub extern "C" fn access_answer(rules: &mut Record, calls: &[u8], answers: &mut [u8]) -> u64
-    ensures { λ r. ⌜ Answers (now (rules .entry)) (now (calls .entry)) (now (answers .entry)) r (now (rules .exit)) (now (answers .exit)) ⌝ }
+    ensures { λ r. ⌜ Answers (now (rules .entry)) (now (calls .entry)) (now (answers .entry)) r
+        (now (rules .exit)) (now (answers .exit)) ⌝ }
 {
     let left = replay::answer_all(*rules, calls, answers);
     *rules = left.rules;

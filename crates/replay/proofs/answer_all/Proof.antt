@@ -7,7 +7,8 @@ use borrow.Author.Needs.{needs}
 use Rattle.policy.specs.Loadable.{loadable}
 use Rattle.access.specs.declared.Answer.{Answer}
 use Rattle.replay.specs.LoadLaws.{answer-loads}
-use Rattle.replay.proofs.Replaying.{Replaying, replaying-start, whole-fit, replaying-length, replaying-more}
+use Rattle.replay.specs.AnswerLaws.{whole-fit}
+use Rattle.replay.proofs.Replaying.{Replaying, replaying-start, replaying-length, replaying-more}
 use Rattle.replay.proofs.Replaying.{replaying-end, replaying-left}
 use Rattle.replay.proofs.answer_all.Statement.{statement}
 use Rattle.replay.proofs.answer_all.Tie as tie
