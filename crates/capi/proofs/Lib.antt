@@ -1,1 +1,2 @@
 mod Interfaces
+mod Lending

@@ -5,6 +5,8 @@ ghost use Rattle.reading.specs.Loading.{load};
 ghost use Rattle.capi.specs.Interface.{rewriteValue, rewriteBuffer, replayValue, replayBuffer};
 ghost use Rattle.capi.specs.Interface as interface;
 
+pub mod lent;
+
 // number · 2^32 + value.
 fn packed(number: u8, value: usize) -> u64
     ensures { λ r. ⌜ r ≡ interface.packed number value ⌝ }

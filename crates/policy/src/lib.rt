@@ -15,6 +15,7 @@ pub mod edits;
 pub mod loadable;
 
 // For one pair (object, requestor): which formulas have been evaluated, and what they came to.
+#[repr(C)]
 pub struct Memo {
     pub object: u8,
     pub requestor: u8,
@@ -24,6 +25,7 @@ pub struct Memo {
 
 // The rules of a bundle. Every kind of line is a table: a count, and a column for each number of the line's body.
 // Unused places are zero in a record that was loaded; one built by hand may hold anything.
+#[repr(C)]
 pub struct Record {
     // Objects are 0 to objects - 1.
     pub objects: u8,

@@ -1,22 +1,15 @@
--- The loop of `replay`: the answers so far stand first, and the rest of the buffer is as it was.
-use Prim.Native.Nat.{ℕ, zero, suc, _+_, _*_, _/_, _≤_, _<_, min}
+-- The loop of `answer_all`: the answers so far stand first, and the rest of the buffer is as it was.
+use Prim.Native.Nat.{ℕ, _+_, _*_, _≤_, _<_}
 use mathlib.Core.Path.{_≡_, refl, sym, _∙_, ap}
 use mathlib.Core.List.{List, _++_, append-assoc}
 use native.Mathlib.Omega.{arith}
-use native.Mathlib.Nat.{min-le-left, min-le-right}
 use native.Mathlib.Numerals.{add-one}
 use lib.ListN.{length, take, drop, length-append, length-drop}
 use lib.Seq.{take-append-seam, drop-append-add, drop-drop}
 use Rattle.policy.specs.declared.Record.{Record}
 use Rattle.access.specs.declared.Answer.{Answer}
+use Rattle.replay.specs.AnswerLaws.{length-replies}
 use Rattle.replay.specs.Replay.{answerTo, answerOctets, listedCallAt, leftAfter, replies, answeredCount, bufferAfter}
-
-length-replies : (r : Record) (calls : List ℕ) (n : ℕ) → length (replies r calls n) ≡ 5 * n
-unfolding replies
-length-replies r calls zero = refl
-length-replies r calls (suc n) =
-    let a = answerTo (leftAfter r calls n) (listedCallAt calls n) in
-    omega (arith, length-replies r calls n, length-append (replies r calls n) (answerOctets a))
 
 -- i of n calls have been answered
 pub record Replaying (calls buffer₀ : List ℕ) (r₀ : Record) (n : ℕ) (buffer : List ℕ) (r : Record) (i : ℕ) : Type 0 where
@@ -27,13 +20,6 @@ pub record Replaying (calls buffer₀ : List ℕ) (r₀ : Record) (n : ℕ) (buf
 pub replaying-start : (calls buffer : List ℕ) (r : Record) (n : ℕ) → Replaying calls buffer r n buffer r 0
 unfolding replies leftAfter
 replaying-start calls buffer r n = record { bytes = refl; left = refl; within = omega arith }
-
--- as many as are whole and fit
-pub whole-fit : (a b n : ℕ) → n ≡ min (a / 4) (b / 5) → (4 * n ≤ a) × (5 * n ≤ b)
-whole-fit a b n e =
-    let x : min (a / 4) (b / 5) ≤ a / 4 = min-le-left (a / 4) (b / 5) in
-    let y : min (a / 4) (b / 5) ≤ b / 5 = min-le-right (a / 4) (b / 5) in
-    (omega (arith, e, x), omega (arith, e, y))
 
 module _ {calls buffer₀ : List ℕ} {r₀ : Record} {n : ℕ} {buffer : List ℕ} {r : Record} {i : ℕ} (w : Replaying calls buffer₀ r₀ n buffer r i)
     (room : 5 * n ≤ length buffer₀) where
@@ -91,3 +77,8 @@ module _ {calls buffer₀ : List ℕ} {r₀ : Record} {n : ℕ} {buffer : List �
   replaying-end l e =
       let m : i ≡ answeredCount calls buffer₀ = let z = w .within in omega arith in
       w .bytes ∙ (λ j. replies r₀ calls (m j) ++ drop (5 * m j) buffer₀)
+
+  pub replaying-left : n ≤ i → n ≡ answeredCount calls buffer₀ → r ≡ leftAfter r₀ calls (answeredCount calls buffer₀)
+  replaying-left l e =
+      let m : i ≡ answeredCount calls buffer₀ = let z = w .within in omega arith in
+      w .left ∙ (λ j. leftAfter r₀ calls (m j))

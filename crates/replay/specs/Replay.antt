@@ -15,6 +15,7 @@ use Rattle.justification.specs.declared.Verdict.{Verdict}
 use Rattle.justification.specs.Predicates.{liberal, strict}
 use Rattle.access.specs.declared.Answer.{Answer}
 use Rattle.access.specs.Access.{eager, lazy}
+use Rattle.replay.specs.declared.Replayed.{Replayed}
 use Rattle.history.specs.Book.{Call, add, remove, askEagerly, askLazily}
 
 -- a call as it is listed: a call of demand 3, one of the predicates, or no kind that there is
@@ -77,3 +78,7 @@ answeredCount calls buffer = min (length calls / 4) (length buffer / 5)
 
 unfoldable pub bufferAfter : Record → List ℕ → List ℕ → List ℕ
 bufferAfter r calls buffer = replies r calls (answeredCount calls buffer) ++ drop (5 * answeredCount calls buffer) buffer
+
+-- how many are answered, and the record that the last of them leaves
+abbrev pub replayed : Record → List ℕ → List ℕ → Replayed
+replayed r calls buffer = record { count = answeredCount calls buffer; rules = leftAfter r calls (answeredCount calls buffer) }

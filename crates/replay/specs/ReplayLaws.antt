@@ -71,7 +71,7 @@ module _ (text : List ℕ) (loads : load text .number ≡ 0) (calls : List ℕ) 
   abbrev b : Record
   b = load text .rules
 
-  abbrev book : Book
+  abbrev pub book : Book
   book = bookAfter b (firstBook text) (callsBefore calls n)
 
   agrees : Agrees b book (leftAfter b calls n)

@@ -7,7 +7,8 @@ ghost use Prim.Native.Nat.{_+_, _/_, _≤_, min};
 ghost use lib.ListN.{length, take, drop};
 ghost use Rattle.octets.specs.Number.{inOctets};
 ghost use Rattle.policy.specs.Loadable as validity;
-ghost use Rattle.replay.specs.Replay.{listedCallOf, questionOf, editAnswer, verdictAnswer, answerTo, answeredCount, bufferAfter};
+ghost use Rattle.replay.specs.Replay.{listedCallOf, questionOf, editAnswer, verdictAnswer, answerTo};
+ghost use Rattle.replay.specs.Replay.{answeredCount, bufferAfter, replayed};
 use access::Answer;
 use justification::Question;
 use justification::Verdict;
@@ -119,9 +120,15 @@ fn put_answer(answers: &mut [u8], place: usize, number: u8, set: u32, evaluation
     answers[place + 4] = evaluations;
 }
 
-// Answers the calls in turn, and returns how many. No call changes whether some bundle loads to the record: one test does for all.
-pub fn replay(rules: Record, calls: &[u8], answers: &mut [u8]) -> usize
-    ensures { λ r. ⌜ (r ≡ answeredCount (now (calls .entry)) (now (answers .entry)))
+// What answering a list comes to, beside the answers: how many there are, and the record that the last call left.
+pub struct Replayed {
+    pub count: usize,
+    pub rules: Record,
+}
+
+// Answers the calls in turn. No call changes whether some bundle loads to the record: one test does for all.
+pub fn answer_all(rules: Record, calls: &[u8], answers: &mut [u8]) -> Replayed
+    ensures { λ r. ⌜ (r ≡ replayed rules (now (calls .entry)) (now (answers .entry)))
         × (now (answers .exit) ≡ bufferAfter rules (now (calls .entry)) (now (answers .entry))) ⌝ }
 {
     let n = answerable(calls.len(), answers.len());
@@ -143,5 +150,14 @@ pub fn replay(rules: Record, calls: &[u8], answers: &mut [u8]) -> usize
         r = left;
         i += 1;
     }
-    n
+    Replayed { count: n, rules: r }
+}
+
+// Answers the calls in turn, and returns how many.
+pub fn replay(rules: Record, calls: &[u8], answers: &mut [u8]) -> usize
+    ensures { λ r. ⌜ (r ≡ answeredCount (now (calls .entry)) (now (answers .entry)))
+        × (now (answers .exit) ≡ bufferAfter rules (now (calls .entry)) (now (answers .entry))) ⌝ }
+{
+    let all = answer_all(rules, calls, answers);
+    all.count
 }
