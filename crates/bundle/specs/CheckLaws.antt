@@ -14,7 +14,7 @@ use Rattle.policy.specs.declared.Record.{Record}
 use Rattle.policy.specs.Table.{Kind, head, user, edge, formula, demarcation, hierarchy, principal, exclusion, prerequisite, method, end}
 use Rattle.policy.specs.Table.{code, count, room, row}
 use Rattle.rows.specs.Op.{opOf, heightOf, formulaInRange}
-use Rattle.policy.specs.Height.{height}
+use Rattle.policy.specs.Height.{heightIn, height}
 use Rattle.rows.specs.Checks.{causes}
 use Rattle.policy.specs.Rows.{limited, rising, key, minimumKey, inRange, rowCauses, rowRefusal}
 use Rattle.policy.specs.Loadable.{loadable}
@@ -27,7 +27,7 @@ pub record Agree (k : Kind) (i : ℕ) (p r : Record) : Type 0 where
   pub above : (m : ℕ) → m < i → row k m p ≡ row k m r
 
 same-height : (p r : Record) (i : ℕ) → ((m : ℕ) → m < i → row formula m p ≡ row formula m r) → (g : ℕ) → height p i g ≡ height r i g
-unfolding height
+unfolding heightIn
 same-height p r zero e g = refl
 same-height p r (suc i) e g = go (ℕ-discrete g i) (same-height p r i (λ m l. e m (omega arith)))
   where

@@ -33,9 +33,9 @@ relating-none firsts seconds =
     }
 
 module _ {firsts seconds : List ℕ} {e : ℕ} {m : List (List Bool)} (h : Relating firsts seconds e m) where
-  pub relating-put : at firsts e < mostRelated → at seconds e < mostRelated
+  relating-at : at firsts e < mostRelated → at seconds e < mostRelated
       → Relating firsts seconds (e + 1) (put m (at firsts e) (at seconds e) true)
-  relating-put la lb =
+  relating-at la lb =
       record {
         square = square-put (h .square) (at firsts e) (at seconds e) la lb true;
         made = λ i j li lj.
@@ -49,6 +49,11 @@ module _ {firsts seconds : List ℕ} {e : ℕ} {m : List (List Bool)} (h : Relat
                   (p .0 l),
             );
       }
+
+  pub relating-put : {a b : ℕ} → a ≡ at firsts e → b ≡ at seconds e → a < mostRelated → b < mostRelated
+      → Relating firsts seconds (e + 1) (put m a b true)
+  relating-put p q la lb =
+      subst₂ (λ (x y : ℕ). Relating firsts seconds (e + 1) (put m x y true)) (sym p) (sym q) (relating-at (omega arith) (omega arith))
 
   pub relating-over : (mostRelated ≤ at firsts e) ⊎ (mostRelated ≤ at seconds e) → Relating firsts seconds (e + 1) m
   relating-over over =

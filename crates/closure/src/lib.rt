@@ -19,19 +19,26 @@ fn at_most(count: usize, limit: usize) -> usize
     limit
 }
 
-// The relation that the first count pairs of two columns make: a pair that names a thing beyond those is passed over.
-pub fn related(
-    firsts: [u8; MOST_PAIRS],
-    seconds: [u8; MOST_PAIRS],
+// A thing as an index.
+fn index(thing: u8) -> usize
+    ensures { λ r. ⌜ r ≡ thing ⌝ }
+{
+    thing as usize
+}
+
+// The relation that the first count pairs of two lent columns make: a pair that names a thing beyond those is passed over.
+pub fn related<'a>(
+    firsts: &'a [u8; MOST_PAIRS],
+    seconds: &'a [u8; MOST_PAIRS],
     count: usize,
 ) -> [[bool; MOST_RELATED]; MOST_RELATED]
-    ensures { λ r. ⌜ Relates (pairsOf (min count mostPairs) firsts seconds) r ⌝ }
+    ensures { λ r. ⌜ Relates (pairsOf (min count mostPairs) (now (firsts .entry)) (now (seconds .entry))) r ⌝ }
 {
     let n = at_most(count, MOST_PAIRS);
     let mut m = [[false; MOST_RELATED]; MOST_RELATED];
     for e in 0..n {
-        let a = firsts[e] as usize;
-        let b = seconds[e] as usize;
+        let a = index(firsts[e]);
+        let b = index(seconds[e]);
         if a < MOST_RELATED && b < MOST_RELATED {
             m[a][b] = true;
         }

@@ -9,8 +9,8 @@ use lib.ListN.{getD}
 use Rattle.common.specs.Lists.{at}
 use Rattle.closure.specs.Closure.{On, Listed, pairsOf, Closes, reaches}
 use Rattle.closure.specs.ClosureFact.{closed-reaches}
-use Rattle.policy.specs.Loadable.{pairsLoad}
-use Rattle.policy.specs.LoadableLaws.{pairs-few, pairs-named}
+use Rattle.tables.specs.Loads.{pairsLoad}
+use Rattle.tables.specs.LoadsLaws.{pairs-few, pairs-named}
 use Rattle.justification.specs.MarkedSets.{Marks}
 
 pub leading : (things n : ℕ) (a b : List ℕ) (m c : List (List Bool)) (sets : List ℕ) → pairsLoad things n a b ≡ true → things ≤ 20

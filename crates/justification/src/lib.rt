@@ -11,8 +11,9 @@ ghost use Rattle.common.specs.Limits.{mostUsers, mostPrincipals, mostExclusions
 ghost use Rattle.common.specs.Lists.{at};
 ghost use Rattle.common.specs.Sets.{member, In};
 ghost use Rattle.closure.specs.Closure.{pairsOf, reaches};
+ghost use Rattle.tables.specs.Loads.{pairsLoad};
 ghost use Rattle.policy.specs.Table.{Kind};
-ghost use Rattle.policy.specs.Loadable.{tableLoads, pairsLoad};
+ghost use Rattle.policy.specs.Loadable.{tableLoads};
 ghost use Rattle.policy.specs.Loadable as validity;
 ghost use Rattle.justification.specs.Justification.{demarcationHas};
 ghost use Rattle.justification.specs.Justification as justification;
@@ -109,7 +110,7 @@ fn leading_to(
     requires { ⌜ (pairsLoad things count firsts seconds ≡ true) × (things ≤ mostPrincipals) ⌝ }
     ensures { λ r. ⌜ ((j : ℕ) → j < things → Marks things (λ i. reaches (pairsOf count firsts seconds) i j) (at r j)) ⌝ }
 {
-    let relation = closure::related(firsts, seconds, count);
+    let relation = closure::related(&firsts, &seconds, count);
     let closed = closure::closed(relation, things);
     column_sets(closed, things)
 }

@@ -1,6 +1,3 @@
-mod Zero
-mod Tables
-mod Pairs
 mod Shifts
 mod EdgeRows
 mod Columns

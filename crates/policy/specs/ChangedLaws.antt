@@ -1,24 +1,20 @@
 -- Laws of `changed`: the record with other edges has these edges, and is loadable where they rise and there is room.
 use Prim.Native.Nat.{ℕ, zero, suc, _-_, _≤_}
 use mathlib.Core.Path.{_≡_, refl, sym, _∙_, ap, subst⁻¹}
-use mathlib.Core.Bool.{true, false, not, cond, _&&_}
+use mathlib.Core.Bool.{true, _&&_}
 use mathlib.Core.List.{List, [], _∷_, _++_, map}
 use lib.ListN.{length, replicate, length-map}
 use lib.Seq.{drop-at}
 use lib.Dec.{leb, eqb}
 use borrow.Author.Tests.{le-leb}
-use Rattle.common.specs.Limits.{mostEdges, mostFormulas}
+use Rattle.common.specs.Limits.{mostEdges}
 use Rattle.common.specs.Lists.{at, every, below, table}
 use Rattle.common.specs.ListLaws.{every-all, table-cons}
 use Rattle.common.specs.BoolLaws.{and-cases, and-both}
-use Rattle.common.specs.Causes.{first}
 use Rattle.policy.specs.declared.Record.{Record}
 use Rattle.policy.specs.declared.Memo.{Memo}
 use Rattle.policy.specs.Table.{Kind, head, user, edge, formula, demarcation, hierarchy, principal, exclusion, prerequisite, method}
 use Rattle.policy.specs.Table.{end, kinds, count, columns, room, row, rows, column, changed}
-use Rattle.rows.specs.Op.{opOf, heightOf, formulaInRange}
-use Rattle.policy.specs.Height.{height}
-use Rattle.rows.specs.Checks.{causes}
 use Rattle.policy.specs.Rows.{inRange, rowCauses, rowRefusal}
 use Rattle.policy.specs.Loadable.{zeroFrom, tableLoads, loadable}
 use Rattle.policy.specs.LoadableLaws.{loadable-table, noCircles}
@@ -48,23 +44,6 @@ module _ (r : Record) (es : List (List ℕ)) (m : Memo) where
   unfolding changed
   rows-changed t = columns-rows t _ _ _
 
-  height-changed : (n f : ℕ) → height r n f ≡ height (changed r es m) n f
-  unfolding height changed
-  height-changed zero f = refl
-  height-changed (suc n) f =
-      λ j. cond (eqb f n)
-      (heightOf (opOf (at (r .«formula_ops») f)) (at (r .«formula_lefts») f) (at (r .«formula_rights») f) (λ g. height-changed n g j))
-      (height-changed n f j)
-
-  formula-changed : (i : ℕ)
-      → rowRefusal formula i r (row formula i r) ≡ rowRefusal formula i (changed r es m) (row formula i (changed r es m))
-  unfolding rowRefusal rowCauses inRange changed
-  formula-changed i =
-      λ j. first (causes (leb mostFormulas i)
-      (not (formulaInRange i (at (r .«formula_ops») i) (at (r .«formula_lefts») i) (at (r .«formula_rights») i)
-      (heightOf (opOf (at (r .«formula_ops») i)) (at (r .«formula_lefts») i) (at (r .«formula_rights») i) (λ g. height-changed i g j))))
-      false)
-
   module _ (loads : loadable r ≡ true) (rising : Rising (r .objects) 0 es) (few : length es ≤ mostEdges) where
     edge-changed : tableLoads (changed r es m) edge ≡ true
     unfolding tableLoads changed
@@ -92,7 +71,7 @@ module _ (r : Record) (es : List (List ℕ)) (m : Memo) where
     table-changed head = kept head refl refl refl (λ i. refl)
     table-changed user = kept user refl refl refl (λ i. refl)
     table-changed edge = edge-changed
-    table-changed formula = kept formula refl refl (formula-changed 0) (λ i. formula-changed (suc i))
+    table-changed formula = kept formula refl refl refl (λ i. refl)
     table-changed demarcation = kept demarcation refl refl refl (λ i. refl)
     table-changed hierarchy = kept hierarchy refl refl refl (λ i. refl)
     table-changed principal = kept principal refl refl refl (λ i. refl)

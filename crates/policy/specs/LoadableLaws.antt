@@ -1,118 +1,90 @@
--- Laws of `Loadable`: the hierarchy's and the prerequisites' tables are tables of pairs, and what their closures and circles are.
+-- Laws of `Loadable`: a record's tables by their columns, and the parts of `loadable`.
 use Prim.Native.Nat.{ℕ, zero, suc, _≤_, _<_}
-use mathlib.Core.Path.{_≡_, refl, sym, _∙_, ap, subst₂}
-use mathlib.Core.Logic.{⊎-elim}
-use mathlib.Core.Bool.{Bool, true, false, false≢true, not, _&&_, _||_}
-use mathlib.Core.List.{List, [], _∷_}
+use mathlib.Core.Path.{_≡_, refl, sym, _∙_, ap}
+use mathlib.Core.Bool.{Bool, true, false, not, _&&_}
+use mathlib.Core.List.{[], _∷_}
 use native.Mathlib.Omega.{arith}
 use lib.ListN.{getD}
-use lib.Dec.{ltb, leb, eqb}
-use borrow.Author.Tests.{ltb-true, leb-true, le-leb, eqb-false, not-true}
-use Rattle.common.specs.Limits.{mostObjects, mostPairs}
-use Rattle.common.specs.Lists.{at, every, below}
-use Rattle.common.specs.ListLaws.{every-more, every-at}
-use Rattle.common.specs.BoolLaws.{and-cases, and-true, and-false}
-use Rattle.common.specs.Causes.{first}
-use Rattle.closure.specs.Closure.{Listed, pairsOf, circular}
-use Rattle.closure.specs.ClosureFact.{listed-append}
+use lib.Dec.{ltb, leb}
+use borrow.Author.Tests.{ltb-true, ltb-false, leb-true, le-leb}
+use Rattle.common.specs.Limits.{mostObjects}
+use Rattle.common.specs.Lists.{every}
+use Rattle.common.specs.ListLaws.{every-at}
+use Rattle.common.specs.BoolLaws.{and-cases, and-false}
+use Rattle.closure.specs.Closure.{circular}
 use Rattle.policy.specs.declared.Record.{Record}
 use Rattle.policy.specs.Table.{Kind, head, user, edge, formula, demarcation, hierarchy, principal, exclusion, prerequisite, method}
 use Rattle.policy.specs.Table.{end, kinds, count, columns, room, row, rows}
-use Rattle.rows.specs.Checks.{causes, pairInRange, pairKey}
 use Rattle.policy.specs.Rows.{inRange, rowCauses, rowRefusal}
-use Rattle.policy.specs.Loadable.{rowsLoad, zeroFrom, minimumPairKey, pairRefusal, pairsLoad, tableLoads, loadable}
+use Rattle.tables.specs.Loads.{linesLoad, usersLoad, edgesLoad, formulasLoad, demarcationsLoad, pairsLoad, principalsLoad, exclusionsLoad}
+use Rattle.tables.specs.Loads.{methodsLoad}
+use Rattle.tables.specs.LoadsLaws.{in-range}
+use Rattle.policy.specs.Loadable.{zeroFrom, rowsLoad, tableLoads, loadable}
+
+-- ---- the tables by their columns (`tables/specs/Loads.antt`)
+
+-- a table whose lines the record's rows are: the first one and the later ones are refused alike
+by-columns : (r : Record) (k : Kind) (refusal : ℕ → ℕ) → refusal 0 ≡ rowRefusal k 0 r (row k 0 r)
+    → ((i : ℕ) → refusal (suc i) ≡ rowRefusal k (suc i) r (row k (suc i) r))
+    → linesLoad (room k) (count k r) refusal (columns k r) ≡ tableLoads r k
+unfolding linesLoad tableLoads
+by-columns r k refusal f g = λ j. linesLoad (room k) (count k r) (λ i. line i j) (columns k r)
+  where
+    line : (i : ℕ) → refusal i ≡ rowRefusal k i r (row k i r)
+    line zero = f
+    line (suc i) = g i
 
 module _ (r : Record) where
+  pub user-columns : usersLoad (r .objects) (r .«user_count») (r .«user_objects») (r .«user_roles») ≡ tableLoads r user
+  unfolding usersLoad rowRefusal rowCauses inRange
+  user-columns = by-columns r user _ refl (λ i. refl)
+
+  pub edge-columns : edgesLoad (r .objects) (r .«edge_count») (r .«edge_labels») (r .«edge_sources») (r .«edge_targets») ≡ tableLoads r edge
+  unfolding edgesLoad rowRefusal rowCauses inRange
+  edge-columns = by-columns r edge _ refl (λ i. refl)
+
+  pub formula-columns : formulasLoad (r .«formula_count») (r .«formula_ops») (r .«formula_lefts») (r .«formula_rights») ≡ tableLoads r formula
+  unfolding formulasLoad rowRefusal rowCauses inRange
+  formula-columns = by-columns r formula _ refl (λ i. refl)
+
+  pub demarcation-columns : demarcationsLoad (r .«demarcation_count») (r .«demarcation_privileges») ≡ tableLoads r demarcation
+  unfolding demarcationsLoad rowRefusal rowCauses inRange
+  demarcation-columns = by-columns r demarcation _ refl (λ i. refl)
+
   pub hierarchy-pairs : pairsLoad (r .«demarcation_count») (r .«hierarchy_count») (r .inferiors) (r .superiors) ≡ tableLoads r hierarchy
-  unfolding pairsLoad tableLoads rowRefusal rowCauses inRange
-  hierarchy-pairs =
-      λ j. leb (r .«hierarchy_count») mostPairs
-      && (every (λ i. eqb (same-row i j) 0) (below (r .«hierarchy_count»))
-      && every (zeroFrom (r .«hierarchy_count»)) (r .inferiors ∷ r .superiors ∷ []))
-    where
-      same-row : (i : ℕ)
-          → pairRefusal (r .«demarcation_count») (r .inferiors) (r .superiors) i ≡ rowRefusal hierarchy i r (row hierarchy i r)
-      same-row zero = refl
-      same-row (suc i) = refl
+  unfolding pairsLoad rowRefusal rowCauses inRange
+  hierarchy-pairs = by-columns r hierarchy _ refl (λ i. refl)
 
-  pub prerequisite-pairs :
-      pairsLoad (r .«principal_count») (r .«prerequisite_count») (r .prerequisites) (r .dependents) ≡ tableLoads r prerequisite
-  unfolding pairsLoad tableLoads rowRefusal rowCauses inRange
-  prerequisite-pairs =
-      λ j. leb (r .«prerequisite_count») mostPairs
-      && (every (λ i. eqb (same-row i j) 0) (below (r .«prerequisite_count»))
-      && every (zeroFrom (r .«prerequisite_count»)) (r .prerequisites ∷ r .dependents ∷ []))
-    where
-      same-row : (i : ℕ)
-          → pairRefusal (r .«principal_count») (r .prerequisites) (r .dependents) i ≡ rowRefusal prerequisite i r (row prerequisite i r)
-      same-row zero = refl
-      same-row (suc i) = refl
+  pub principal-columns : principalsLoad (r .«formula_count») (r .«demarcation_count») (r .«principal_count») (r .«principal_formulas»)
+      (r .«principal_demarcations») ≡ tableLoads r principal
+  unfolding principalsLoad rowRefusal rowCauses inRange
+  principal-columns = by-columns r principal _ refl (λ i. refl)
 
--- ---- a table of pairs that loads names different things, all of them there
+  pub exclusion-columns : exclusionsLoad (r .«principal_count») (r .«exclusion_count») (r .«exclusion_lows») (r .«exclusion_highs») ≡ tableLoads r exclusion
+  unfolding exclusionsLoad rowRefusal rowCauses inRange
+  exclusion-columns = by-columns r exclusion _ refl (λ i. refl)
 
-in-range : (x y : Bool) → eqb (first (causes false (not x) y)) 0 ≡ true → x ≡ true
-in-range true y e = refl
-in-range false y e = absurd (false≢true e)
+  pub prerequisite-pairs : pairsLoad (r .«principal_count») (r .«prerequisite_count») (r .prerequisites) (r .dependents) ≡ tableLoads r prerequisite
+  unfolding pairsLoad rowRefusal rowCauses inRange
+  prerequisite-pairs = by-columns r prerequisite _ refl (λ i. refl)
 
-pairs-in-range : (things n : ℕ) (a b : List ℕ) → every (λ i. eqb (pairRefusal things a b i) 0) (below n) ≡ true → (i j : ℕ)
-    → Listed (pairsOf n a b) i j → pairInRange things i j ≡ true
-pairs-in-range things zero a b e i j l = absurd l
-pairs-in-range things (suc n) a b e i j l =
-    let h = and-cases _ _ (sym (every-more (λ x. eqb (pairRefusal things a b x) 0) n (λ x. x)) ∙ e) in
-    let p = in-range (pairInRange things (at a n) (at b n)) (ltb (pairKey (at a n) (at b n)) (minimumPairKey n a b)) (h .1) in
-    ⊎-elim
-    (λ m. pairs-in-range things n a b (h .0) i j m)
-    (λ m. ⊎-elim (λ s. subst₂ (λ (x y : ℕ). pairInRange things x y ≡ true) (s .0) (s .1) p) (λ z. absurd z) m)
-    (listed-append (pairsOf n a b) ((at a n ∷ at b n ∷ []) ∷ []) i j .0 l)
-
-module _ (things n : ℕ) (a b : List ℕ) (loads : pairsLoad things n a b ≡ true) where
-  all-rows : every (λ i. eqb (pairRefusal things a b i) 0) (below n) ≡ true
-  unfolding pairsLoad
-  all-rows = and-cases _ _ (and-cases (leb n mostPairs) _ loads .1) .0
-
-  pub pairs-few : n ≤ mostPairs
-  unfolding pairsLoad
-  pairs-few = leb-true n mostPairs (and-cases (leb n mostPairs) _ loads .0)
-
-  pub pairs-named : (i j : ℕ) → Listed (pairsOf n a b) i j → (i < things) × (j < things)
-  pairs-named i j l =
-      let p = and-cases (ltb i things) _ (pairs-in-range things n a b all-rows i j l) in
-      (ltb-true i things (p .0), ltb-true j things (and-cases (ltb j things) _ (p .1) .0))
-
-  pub pairs-proper : (i : ℕ) → Listed (pairsOf n a b) i i → ⊥
-  pairs-proper i l =
-      let p = and-cases (ltb i things) _ (pairs-in-range things n a b all-rows i i l) in
-      eqb-false i i (not-true (eqb i i) (and-cases (ltb i things) _ (p .1) .1)) refl
+  pub method-columns : methodsLoad (r .«method_count») (r .«method_forms») (r .«method_privileges») ≡ tableLoads r method
+  unfolding methodsLoad rowRefusal rowCauses inRange
+  method-columns = by-columns r method _ refl (λ i. refl)
 
 -- ---- the parts of `loadable`
-
--- kinds 02 to 05, and 06 to 0A
-abbrev pub graphLoads : Record → Bool
-graphLoads r = tableLoads r user && (tableLoads r edge && (tableLoads r formula && tableLoads r demarcation))
-
-abbrev pub groundsLoad : Record → Bool
-groundsLoad r =
-    tableLoads r hierarchy && (tableLoads r principal && (tableLoads r exclusion && (tableLoads r prerequisite && tableLoads r method)))
 
 abbrev pub noCircles : Record → Bool
 noCircles r = not (circular (rows hierarchy r)) && not (circular (rows prerequisite r))
 
-pub no-circles : (r : Record) → not (circular (rows hierarchy r) || circular (rows prerequisite r)) ≡ noCircles r
-no-circles r = go (circular (rows hierarchy r)) (circular (rows prerequisite r))
-  where
-    go : (x y : Bool) → not (x || y) ≡ (not x && not y)
-    go true y = refl
-    go false y = refl
+-- kinds 02 to 04; kinds 05 to 0A, with the circles of the two relations
+abbrev pub graphLoads : Record → Bool
+graphLoads r = tableLoads r user && (tableLoads r edge && tableLoads r formula)
 
-and-assoc : (x y z : Bool) → x && (y && z) ≡ (x && y) && z
-and-assoc true y z = refl
-and-assoc false y z = refl
-
-pub loadable-parts : (r : Record) → loadable r ≡ ((tableLoads r head && (graphLoads r && groundsLoad r)) && noCircles r)
-unfolding loadable
-loadable-parts r =
-    ap (λ (b : Bool). (tableLoads r head && b) && noCircles r)
-    (simp and-true (simp and-assoc))
+abbrev pub groundsLoad : Record → Bool
+groundsLoad r =
+    (tableLoads r demarcation && (tableLoads r principal && (tableLoads r exclusion && tableLoads r method)))
+    && ((tableLoads r hierarchy && not (circular (rows hierarchy r))) && (tableLoads r prerequisite && not (circular (rows prerequisite r))))
 
 module _ (r : Record) where
   -- the head's table: at least one object
@@ -129,49 +101,40 @@ module _ (r : Record) where
   unfolding tableLoads rowRefusal rowCauses inRange
   head-some l h = rw (le-leb 1 (r .objects) l, le-leb (r .objects) mostObjects h)
 
-  pub loadable-no-objects : r .objects ≡ 0 → false ≡ loadable r
-  loadable-no-objects e = sym (loadable-parts r ∙ rw (head-none e))
-
-  pub loadable-no-graph : graphLoads r ≡ false → false ≡ loadable r
-  loadable-no-graph e = sym (loadable-parts r ∙ rw (e, and-false (tableLoads r head)))
-
-  pub loadable-no-grounds : groundsLoad r ≡ false → false ≡ loadable r
-  loadable-no-grounds e = sym (loadable-parts r ∙ rw (e, and-false (graphLoads r), and-false (tableLoads r head)))
-
-  -- every kind's table
-  pub all-load : 1 ≤ r .objects → r .objects ≤ mostObjects → graphLoads r ≡ true → groundsLoad r ≡ true → (j : Kind) → tableLoads r j ≡ true
-  all-load l h e f = each
+  head-test : r .objects ≤ mostObjects → ltb 0 (r .objects) ≡ tableLoads r head
+  head-test h = go (ltb 0 (r .objects)) refl
     where
-      g : (tableLoads r edge && (tableLoads r formula && tableLoads r demarcation)) ≡ true
-      g = and-cases (tableLoads r user) _ e .1
+      go : (b : Bool) → ltb 0 (r .objects) ≡ b → b ≡ tableLoads r head
+      go true e = sym (head-some (ltb-true 0 (r .objects) e) h)
+      go false e = sym (head-none (let l = ltb-false 0 (r .objects) e in omega arith))
 
-      m : (tableLoads r formula && tableLoads r demarcation) ≡ true
-      m = and-cases (tableLoads r edge) _ g .1
+  pub loadable-parts : r .objects ≤ mostObjects → ltb 0 (r .objects) && (graphLoads r && groundsLoad r) ≡ loadable r
+  unfolding loadable
+  loadable-parts h =
+      ap (λ (b : Bool). b && (graphLoads r && groundsLoad r)) (head-test h)
+      ∙ first-kinds (tableLoads r head) (tableLoads r user) (tableLoads r edge) (tableLoads r formula)
+    where
+      later-kinds : (d i p x q m a b : Bool)
+          → (d && (p && (x && m))) && ((i && a) && (q && b)) ≡ (d && (i && (p && (x && (q && (m && true)))))) && (a && b)
+      later-kinds false i p x q m a b = refl
+      later-kinds true i false x q m a b = rw (and-false i)
+      later-kinds true i true false q m a b = rw (and-false i)
+      later-kinds true false true true q true a b = refl
+      later-kinds true false true true q false a b = refl
+      later-kinds true true true true q false a b = rw (and-false q)
+      later-kinds true true true true true true a b = refl
+      later-kinds true true true true false true a b = and-false a
 
-      p : (tableLoads r principal && (tableLoads r exclusion && (tableLoads r prerequisite && tableLoads r method))) ≡ true
-      p = and-cases (tableLoads r hierarchy) _ f .1
-
-      q : (tableLoads r exclusion && (tableLoads r prerequisite && tableLoads r method)) ≡ true
-      q = and-cases (tableLoads r principal) _ p .1
-
-      s : (tableLoads r prerequisite && tableLoads r method) ≡ true
-      s = and-cases (tableLoads r exclusion) _ q .1
-
-      each : (j : Kind) → tableLoads r j ≡ true
-      each head = head-some l h
-      each user = and-cases (tableLoads r user) _ e .0
-      each edge = and-cases (tableLoads r edge) _ g .0
-      each formula = and-cases (tableLoads r formula) _ m .0
-      each demarcation = and-cases (tableLoads r formula) _ m .1
-      each hierarchy = and-cases (tableLoads r hierarchy) _ f .0
-      each principal = and-cases (tableLoads r principal) _ p .0
-      each exclusion = and-cases (tableLoads r exclusion) _ q .0
-      each prerequisite = and-cases (tableLoads r prerequisite) _ s .0
-      each method = and-cases (tableLoads r prerequisite) _ s .1
-      each end = end-loads
-
-  pub loadable-all : 1 ≤ r .objects → r .objects ≤ mostObjects → graphLoads r ≡ true → groundsLoad r ≡ true → noCircles r ≡ loadable r
-  loadable-all l h e f = sym (loadable-parts r ∙ rw (e, f, head-some l h))
+      first-kinds : (h u e f : Bool) → h && ((u && (e && f)) && groundsLoad r)
+          ≡ (h && (u && (e && (f && every (tableLoads r)
+          (demarcation ∷ hierarchy ∷ principal ∷ exclusion ∷ prerequisite ∷ method ∷ []))))) && noCircles r
+      first-kinds false u e f = refl
+      first-kinds true false e f = refl
+      first-kinds true true false f = refl
+      first-kinds true true true false = refl
+      first-kinds true true true true =
+          later-kinds (tableLoads r demarcation) (tableLoads r hierarchy) (tableLoads r principal) (tableLoads r exclusion)
+          (tableLoads r prerequisite) (tableLoads r method) (not (circular (rows hierarchy r))) (not (circular (rows prerequisite r)))
 
 -- the head's table says that there are 1 to 255 objects
 pub head-range : (r : Record) → tableLoads r head ≡ true → (1 ≤ r .objects) × (r .objects ≤ mostObjects)

@@ -1,42 +1,21 @@
 -- Whether some bundle loads to a record does not depend on its memo: each table is taken as before.
 use Prim.Native.Nat.{ℕ, zero, suc}
 use mathlib.Core.Path.{_≡_, refl}
-use mathlib.Core.Bool.{false, not, cond, _&&_}
+use mathlib.Core.Bool.{not, _&&_}
 use lib.Dec.{leb, eqb}
-use Rattle.common.specs.Limits.{mostFormulas}
-use Rattle.common.specs.Lists.{at, every, below}
-use Rattle.common.specs.Causes.{first}
+use Rattle.common.specs.Lists.{every, below}
 use Rattle.closure.specs.Closure.{circular}
-use Rattle.rows.specs.Op.{opOf, heightOf, formulaInRange}
-use Rattle.rows.specs.Checks.{causes}
 use Rattle.policy.specs.declared.Record.{Record}
 use Rattle.policy.specs.declared.Memo.{Memo}
 use Rattle.policy.specs.Table.{Kind, head, user, edge, formula, demarcation, hierarchy, principal, exclusion, prerequisite, method}
 use Rattle.policy.specs.Table.{end}
 use Rattle.policy.specs.Table.{kinds, count, columns, room, row, rows, withMemo}
-use Rattle.policy.specs.Height.{height}
 use Rattle.policy.specs.Rows.{inRange, rowCauses, rowRefusal}
 use Rattle.policy.specs.Loadable.{zeroFrom, tableLoads, loadable}
 
 module _ (r : Record) (m : Memo) where
   abbrev s : Record
   s = withMemo r m
-
-  height-aside : (n f : ℕ) → height s n f ≡ height r n f
-  unfolding height withMemo
-  height-aside zero f = refl
-  height-aside (suc n) f =
-      λ j. cond (eqb f n)
-      (heightOf (opOf (at (r .«formula_ops») f)) (at (r .«formula_lefts») f) (at (r .«formula_rights») f) (λ g. height-aside n g j))
-      (height-aside n f j)
-
-  formula-aside : (i : ℕ) → rowRefusal formula i s (row formula i s) ≡ rowRefusal formula i r (row formula i r)
-  unfolding rowRefusal rowCauses inRange withMemo
-  formula-aside i =
-      λ j. first (causes (leb mostFormulas i)
-      (not (formulaInRange i (at (r .«formula_ops») i) (at (r .«formula_lefts») i) (at (r .«formula_rights») i)
-      (heightOf (opOf (at (r .«formula_ops») i)) (at (r .«formula_lefts») i) (at (r .«formula_rights») i) (λ g. height-aside i g j))))
-      false)
 
   kept : (k : Kind) → count k s ≡ count k r → columns k s ≡ columns k r → rowRefusal k 0 s (row k 0 s) ≡ rowRefusal k 0 r (row k 0 r)
       → ((i : ℕ) → rowRefusal k (suc i) s (row k (suc i) s) ≡ rowRefusal k (suc i) r (row k (suc i) r)) → tableLoads s k ≡ tableLoads r k
@@ -52,7 +31,7 @@ module _ (r : Record) (m : Memo) where
   table-aside head = kept head refl refl refl (λ i. refl)
   table-aside user = kept user refl refl refl (λ i. refl)
   table-aside edge = kept edge refl refl refl (λ i. refl)
-  table-aside formula = kept formula refl refl (formula-aside 0) (λ i. formula-aside (suc i))
+  table-aside formula = kept formula refl refl refl (λ i. refl)
   table-aside demarcation = kept demarcation refl refl refl (λ i. refl)
   table-aside hierarchy = kept hierarchy refl refl refl (λ i. refl)
   table-aside principal = kept principal refl refl refl (λ i. refl)

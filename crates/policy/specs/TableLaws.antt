@@ -19,7 +19,7 @@ use Rattle.policy.specs.declared.Record.{Record}
 use Rattle.policy.specs.Table.{Kind, head, user, edge, formula, demarcation, hierarchy, principal, exclusion, prerequisite, method}
 use Rattle.policy.specs.Table.{end, code, kindOf, isKind, count, columns, room, row, blank, appended}
 use Rattle.rows.specs.Op.{opOf, heightOf, formulaInRange}
-use Rattle.policy.specs.Height.{height}
+use Rattle.policy.specs.Height.{heightIn, height}
 use Rattle.rows.specs.Checks.{causes}
 use Rattle.policy.specs.Rows.{limited, rising, key, minimumKey, inRange, rowCauses, rowRefusal}
 use Rattle.policy.specs.Loadable.{rowsLoad, zeroFrom, tableLoads}
@@ -199,7 +199,7 @@ module _ (k : Kind) (r : Record) (v : List ℕ) (body : code head < code k) wher
 
   -- heights below the count stay
   pub height-kept : (i : ℕ) → i ≤ count formula r → (g : ℕ) → height (appended k r v) i g ≡ height r i g
-  unfolding height
+  unfolding heightIn
   height-kept zero l g = refl
   height-kept (suc i) l g = go (ℕ-discrete g i) (height-kept i (omega arith))
     where

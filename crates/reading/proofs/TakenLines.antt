@@ -216,4 +216,4 @@ module _ {text : List ℕ} {kind size : ℕ} {start : Stage} {c : Cursor} {r : R
             let shown = heights-appended (v .a) (v .b) (v .c) (g .partway .begun .sized) l (g .high f) (t .height ∙ rw (eq-eqb kind 4 f)) in
             subst₂ (λ (s : Record) (k : List ℕ). Heights s k (count formula s))
             (sym (ap (λ (k : Kind). appended k r (fieldsOf k v)) (ap kindOf f)) ∙ e) (ap (λ (i : ℕ). set heights i h) (sym same) ∙ sym z)
-            (subst (Heights _ _) (sym (count-same formula r (fieldsOf formula v) (omega arith) (omega arith))) shown)
+            (subst (Heights (appended formula r (fieldsOf formula v)) _) (sym (count-same formula r (fieldsOf formula v) (omega arith) (omega arith))) shown)

@@ -11,10 +11,10 @@ use Rattle.closure.proofs.related.Statement.{statement}
 use Rattle.closure.proofs.related.Tie as tie
 
 abbrev Inv-loop : tie.InvT-loop
-Inv-loop count firsts seconds n m₀ e₀ m e = Relating firsts seconds e m × (e ≤ n)
+Inv-loop firsts seconds count n m₀ e₀ m e = Relating firsts seconds e m × (e ≤ n)
 
 abbrev μ-loop : tie.MeasureT-loop
-μ-loop count firsts seconds n m₀ e₀ m e = n - e
+μ-loop firsts seconds count n m₀ e₀ m e = n - e
 
 at-most-requires : tie.Need-at-most-requires Inv-loop μ-loop
 at-most-requires c κs = search needs
@@ -22,17 +22,17 @@ at-most-requires c κs = search needs
 loop-holds : tie.Need-loop-holds Inv-loop μ-loop
 loop-holds c = (relating-none _ _, omega arith)
 
-array-read-a : tie.Need-array-read-a Inv-loop μ-loop
-array-read-a c = search needs
+element-copy-out-index : tie.Need-element-copy-out-index Inv-loop μ-loop
+element-copy-out-index c = search needs
 
-cast-a : tie.Need-cast-a Inv-loop μ-loop
-cast-a c = search needs
+index-requires : tie.Need-index-requires Inv-loop μ-loop
+index-requires c κs = search needs
 
-array-read-b : tie.Need-array-read-b Inv-loop μ-loop
-array-read-b c = search needs
+element-copy-out-index-2 : tie.Need-element-copy-out-index-2 Inv-loop μ-loop
+element-copy-out-index-2 c = search needs
 
-cast-b : tie.Need-cast-b Inv-loop μ-loop
-cast-b c = search needs
+index-requires-2 : tie.Need-index-requires-2 Inv-loop μ-loop
+index-requires-2 c κs = search needs
 
 mul-m : tie.Need-mul-m Inv-loop μ-loop
 mul-m c = omega (arith, ltb-true)
@@ -51,11 +51,13 @@ loop-less c = search needs
 
 loop-again : tie.Need-loop-again Inv-loop μ-loop
 loop-again c =
-    let a = c .before .before .loop .inv in
+    let h = c .before .before .before .before .before .before in
+    let a = c .before .before .before .index .ensures in
+    let b = c .before .index2 .ensures in
     ⊎-elim
-    (λ w. rw (w .2) (relating-put (a .0) (w .0 .taken) (let l = w .1 .taken in omega (arith, ltb-true)), omega arith))
+    (λ w. rw (w .2) (relating-put (h .loop .inv .0) a b (w .0 .taken) (let l = w .1 .taken in omega (arith, ltb-true)), omega arith))
     (λ w. rw (w .1) (
-      relating-over (a .0) (⊎-elim (λ o. inr (let l = o .1 .left in omega (arith, ltb-false))) (λ o. inl (o .left)) (w .0 .came)),
+      relating-over (h .loop .inv .0) (⊎-elim (λ o. inr (let l = o .1 .left in omega (arith, ltb-false))) (λ o. inl (let l = o .left in omega arith)) (w .0 .came)),
       omega arith,
     ))
     (c .if1 .came)
@@ -73,10 +75,10 @@ related-spec =
     μ-loop
     at-most-requires
     loop-holds
-    array-read-a
-    cast-a
-    array-read-b
-    cast-b
+    element-copy-out-index
+    index-requires
+    element-copy-out-index-2
+    index-requires-2
     mul-m
     index-1-m
     index-2-m

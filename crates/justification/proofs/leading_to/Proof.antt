@@ -14,8 +14,9 @@ column-sets-requires : tie.Need-column-sets-requires
 column-sets-requires c κs = search needs
 
 returns : tie.Need-returns
-returns c = let s = c .before .before .before in
-    leading (s .args .things) (s .args .count) (s .args .firsts) (s .args .seconds) (c .before .before .related .result)
+returns c =
+    let s = c .before .before .before .before .before in
+    leading (s .args .things) (s .args .count) (s .args .t3) (s .args .t4) (c .before .before .related .result)
     (c .before .closed .result) (c .«column-sets» .result) (s .pre .0) (s .pre .1)
     (c .before .before .related .ensures) (c .before .closed .ensures) (c .«column-sets» .ensures)
 

@@ -1,53 +1,52 @@
--- `loadable` meets its contract: each way out is a law of `LoadableLaws`.
-use mathlib.Core.Path.{_≡_, sym, _∙_, ap}
-use mathlib.Core.Bool.{true, not}
+-- `loadable` meets its contract: each table's test by its columns is that of the record's table (`LoadableLaws`).
+use Prim.Native.Nat.{_≤_}
+use mathlib.Core.Path.{_≡_, _∙_}
+use mathlib.Core.Bool.{not, _&&_}
+use lib.Dec.{ltb}
 use native.Mathlib.Omega.{arith}
-use borrow.Author.Tests.{not-true, not-false}
-use Rattle.policy.specs.LoadableLaws.{no-circles, all-load, graphLoads, groundsLoad, loadable-no-objects, loadable-no-graph}
-use Rattle.policy.specs.LoadableLaws.{loadable-no-grounds, loadable-all}
+use Rattle.common.specs.Limits.{mostObjects}
+use Rattle.closure.specs.Closure.{circular}
+use Rattle.policy.specs.Table.{hierarchy, prerequisite, rows}
+use Rattle.policy.specs.LoadableLaws.{user-columns, edge-columns, formula-columns, demarcation-columns, hierarchy-pairs}
+use Rattle.policy.specs.LoadableLaws.{principal-columns, exclusion-columns, prerequisite-pairs, method-columns}
+use Rattle.policy.specs.LoadableLaws.{graphLoads, groundsLoad, loadable-parts}
 use borrow.Author.Needs.{needs}
 use Rattle.policy.proofs.loadable.loadable.Statement.{statement}
 use Rattle.policy.proofs.loadable.loadable.Tie as tie
 
-returns : tie.Need-returns
-returns c = loadable-no-objects _ (c .if1 .taken)
-
 graph-loads-requires : tie.Need-graph-loads-requires
 graph-loads-requires c κs = search needs
-
-returns-2 : tie.Need-returns-2
-returns-2 c = loadable-no-graph _ (sym (c .before .graph-loads .ensures) ∙ not-true _ (c .if2 .taken))
 
 grounds-load-requires : tie.Need-grounds-load-requires
 grounds-load-requires c κs = search needs
 
-returns-3 : tie.Need-returns-3
-returns-3 c = loadable-no-grounds _ (sym (c .before .grounds-load .ensures) ∙ not-true _ (c .if3 .taken))
+-- the places passed, from the second call back to the first, and to the function's entry: eleven columns are lent, and eight
+abbrev graph-tested : tie.After-grounds-load → tie.After-graph-loads
+graph-tested c = c .before .before .before .before .before .before .before .before .before .before .before .before .before
 
--- where all tables load
-graph : (c : tie.Else3) → graphLoads (c .before .before .before .before .before .before .args .rules) ≡ true
-graph c = sym (c .before .before .before .graph-loads .ensures) ∙ not-false _ (c .before .before .if2 .left)
+abbrev entry : tie.After-graph-loads → tie.Start
+entry c = c .before .before .before .before .before .before .before .before .before .before
 
-grounds : (c : tie.Else3) → groundsLoad (c .before .before .before .before .before .before .args .rules) ≡ true
-grounds c = sym (c .before .grounds-load .ensures) ∙ not-false _ (c .if3 .left)
+graph : (c : tie.After-graph-loads) → c .graph-loads .result ≡ graphLoads (entry c .args .t1)
+graph c =
+    let r = entry c .args .t1 in
+    c .graph-loads .ensures ∙ (λ i. user-columns r i && (edge-columns r i && formula-columns r i))
 
-has-circles-requires : tie.Need-has-circles-requires
-has-circles-requires c κs = all-load _ (omega arith) (omega arith) (graph c) (grounds c)
+grounds : (c : tie.After-grounds-load) → c .grounds-load .result ≡ groundsLoad (entry (graph-tested c) .args .t1)
+grounds c =
+    let r = entry (graph-tested c) .args .t1 in
+    c .grounds-load .ensures
+    ∙ (λ i. (demarcation-columns r i && (principal-columns r i && (exclusion-columns r i && method-columns r i)))
+    && ((hierarchy-pairs r i && not (circular (rows hierarchy r))) && (prerequisite-pairs r i && not (circular (rows prerequisite r)))))
 
-returns-4 : tie.Need-returns-4
-returns-4 c =
-    let t = c .before in
-    let r = t .before .before .before .before .before .before .args .rules in
-    ap not (c .has-circles .ensures) ∙ no-circles r ∙ loadable-all r (omega arith) (omega arith) (graph t) (grounds t)
+objects-few : (s : tie.Start) → s .args .t1 .objects ≤ mostObjects
+objects-few s = omega arith
+
+returns : tie.Need-returns
+returns c =
+    let s = entry (graph-tested c) in
+    let r = s .args .t1 in
+    (λ i. ltb 0 (r .objects) && (graph (graph-tested c) i && grounds c i)) ∙ loadable-parts r (objects-few s)
 
 pub loadable-spec : {M : Type 1} → statement M
-loadable-spec =
-    tie.close
-    (tie.spec
-    returns
-    graph-loads-requires
-    returns-2
-    grounds-load-requires
-    returns-3
-    has-circles-requires
-    returns-4)
+loadable-spec = tie.close (tie.spec graph-loads-requires grounds-load-requires returns)

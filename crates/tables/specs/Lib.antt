@@ -1,0 +1,4 @@
+pub mod Height
+pub mod Loads
+pub mod HeightLaws
+pub mod LoadsLaws
