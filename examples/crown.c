@@ -1,73 +1,106 @@
-/* Asks the crown's questions (document 01, "The crown table") through the C interface.
- *
- *   rt staticlib capi
- *   gcc -Iinclude -o target/crown examples/crown.c target/staticlib/libcapi.a
- *   target/crown < examples/crown.hex
- */
+/* Asks the crown's questions (document 01, "The crown table") of a record that this program owns, then edits the record, writes it
+ * and loads what was written. `examples/run` builds and runs it. */
 #include <stdio.h>
+#include <string.h>
 
 #include "case_access.h"
 
-enum { CROWN, ANA, BEN };
+enum { CROWN, ANA, BEN };         /* objects */
+enum { DESIGNED_BY, CHECKED_BY }; /* labels */
 
-static uint8_t bundle[ACCESS_LARGEST_BUNDLE];
-static size_t length;
+static char bundle[ACCESS_LARGEST_BUNDLE + 1];
+static access_record loaded = ACCESS_RECORD_ZERO, record = ACCESS_RECORD_ZERO;
 
-/* Prints the answer to the last of the calls (one or two), which go to a record just loaded. */
-static void ask(const char *what, const uint8_t *calls, size_t count)
+/* The record as it was loaded: a copy of it is a fresh load. */
+static access_record *fresh(void)
 {
-    uint8_t answers[2 * ACCESS_ANSWER_OCTETS];
-    uint64_t result = access_replay(bundle, length, calls, ACCESS_CALL_OCTETS * count, answers, sizeof answers);
-    const uint8_t *a = answers + ACCESS_ANSWER_OCTETS * (count - 1);
-    uint32_t set;
+    record = loaded;
+    return &record;
+}
+
+/* Loads the bundle; says so and answers 0 when it is refused. */
+static int load(access_record *into, size_t length)
+{
+    uint64_t result = access_load(into, (const uint8_t *)bundle, length);
+    unsigned number = access_number(result);
+
+    if (number != ACCESS_ACCEPTED)
+        printf("the bundle is refused (%u), line %u: %s\n", number, (unsigned)access_value(result), access_number_text(number));
+    return number == ACCESS_ACCEPTED;
+}
+
+static void decided(const char *what, access_decision decision)
+{
     int p, members = 0;
 
     printf("%-34s ", what);
-    if (access_number(result) != ACCESS_ACCEPTED) {
-        printf("the bundle is refused (%u): %s\n", access_number(result), access_number_text(access_number(result)));
-        return;
-    }
-    set = (uint32_t)a[1] << 16 | (uint32_t)a[2] << 8 | a[3];
-    if (calls[ACCESS_CALL_OCTETS * (count - 1)] >= ACCESS_CALL_LIBERAL) {
-        printf("%s\n", a[0] != ACCESS_ACCEPTED ? "refused" : set ? "yes" : "no");
-        return;
-    }
-    if (a[0] != ACCESS_ACCEPTED) {
-        printf("%s (%u), evaluations %u\n", a[0] == ACCESS_NO_SET ? "denied" : "refused", a[0], a[4]);
+    if (decision.number != ACCESS_ACCEPTED) {
+        const char *word = decision.number == ACCESS_NO_SET ? "denied" : "refused";
+        printf("%s (%u), evaluations %u\n", word, decision.number, decision.evaluations);
         return;
     }
     printf("granted {");
     for (p = 0; p < 20; p++)
-        if (set >> p & 1)
+        if (decision.set >> p & 1)
             printf(members++ ? ", %d" : "%d", p);
-    printf("}, evaluations %u\n", a[4]);
+    printf("}, evaluations %u\n", decision.evaluations);
+}
+
+static void answered(const char *what, access_verdict verdict)
+{
+    printf("%-34s %s\n", what, verdict.number != ACCESS_ACCEPTED ? "refused" : verdict.yes ? "yes" : "no");
+}
+
+static void edited(const char *what, unsigned number)
+{
+    printf("%-34s %s\n", what, access_number_text(number));
+}
+
+/* Prints the bundle's lines of one kind. */
+static void show_lines(const char *kind)
+{
+    const char *line;
+
+    for (line = bundle; *line != 0; line = strchr(line, '\n') + 1)
+        if (strncmp(line + 2, kind, 2) == 0)
+            printf("  %.*s\n", (int)strcspn(line, "\n"), line);
 }
 
 int main(void)
 {
-    const uint8_t a[] = {ACCESS_CALL_LAZY, 0, CROWN, ANA};
-    const uint8_t b[] = {ACCESS_CALL_EAGER, 0, CROWN, ANA};
-    const uint8_t c[] = {ACCESS_CALL_LAZY, 1, CROWN, ANA};
-    const uint8_t d[] = {ACCESS_CALL_LAZY, 2, CROWN, ANA};
-    const uint8_t e[] = {ACCESS_CALL_LAZY, 3, CROWN, ANA};
-    const uint8_t f[] = {ACCESS_CALL_LIBERAL, 3, CROWN, ANA};
-    const uint8_t g[] = {ACCESS_CALL_STRICT, 3, CROWN, ANA};
-    const uint8_t h[] = {ACCESS_CALL_LAZY, 0, CROWN, BEN};
-    const uint8_t i[] = {ACCESS_CALL_STRICT, 0, CROWN, BEN};
-    const uint8_t j[] = {ACCESS_CALL_REMOVE, 1, CROWN, ANA, ACCESS_CALL_LAZY, 0, CROWN, ANA};
-    const uint8_t k[] = {ACCESS_CALL_LAZY, 0, CROWN, CROWN};
+    uint64_t result;
 
-    length = fread(bundle, 1, sizeof bundle, stdin);
-    ask("(a) Ana, method 0, lazy", a, 1);
-    ask("(b) Ana, method 0, eager", b, 1);
-    ask("(c) Ana, method 1, lazy", c, 1);
-    ask("(d) Ana, method 2, lazy", d, 1);
-    ask("(e) Ana, method 3, lazy", e, 1);
-    ask("(f) Ana, method 3, liberal", f, 1);
-    ask("(g) Ana, method 3, strict", g, 1);
-    ask("(h) Ben, method 0, lazy", h, 1);
-    ask("(i) Ben, method 0, strict", i, 1);
-    ask("(j) Ana no longer checker, 0, lazy", j, 2);
-    ask("(k) the crown asks for itself", k, 1);
+    if (!load(&loaded, fread(bundle, 1, sizeof bundle - 1, stdin)))
+        return 1;
+    decided("(a) Ana, method 0, lazy", access_lazy(fresh(), 0, CROWN, ANA));
+    decided("(b) Ana, method 0, eager", access_eager(fresh(), 0, CROWN, ANA));
+    decided("(c) Ana, method 1, lazy", access_lazy(fresh(), 1, CROWN, ANA));
+    decided("(d) Ana, method 2, lazy", access_lazy(fresh(), 2, CROWN, ANA));
+    decided("(e) Ana, method 3, lazy", access_lazy(fresh(), 3, CROWN, ANA));
+    answered("(f) Ana, method 3, liberal", access_liberal(fresh(), 3, CROWN, ANA));
+    answered("(g) Ana, method 3, strict", access_strict(fresh(), 3, CROWN, ANA));
+    decided("(h) Ben, method 0, lazy", access_lazy(fresh(), 0, CROWN, BEN));
+    answered("(i) Ben, method 0, strict", access_strict(fresh(), 0, CROWN, BEN));
+    access_remove(fresh(), CHECKED_BY, CROWN, ANA);
+    decided("(j) Ana no longer checker, 0, lazy", access_lazy(&record, 0, CROWN, ANA));
+    decided("(k) the crown asks for itself", access_lazy(fresh(), 0, CROWN, CROWN));
+
+    printf("\nOne record, call after call:\n");
+    decided("Ana, method 0, lazy", access_lazy(fresh(), 0, CROWN, ANA));
+    decided("the same, known by now", access_lazy(&record, 0, CROWN, ANA));
+    edited("remove edge (1, 0, 1)", access_remove(&record, CHECKED_BY, CROWN, ANA));
+    decided("Ana, method 0, lazy", access_lazy(&record, 0, CROWN, ANA));
+    edited("remove it again", access_remove(&record, CHECKED_BY, CROWN, ANA));
+
+    memset(bundle, 0, sizeof bundle);
+    result = access_write(&record, (uint8_t *)bundle, sizeof bundle - 1);
+    printf("written: %u bytes; edges and end are now\n", (unsigned)access_value(result));
+    show_lines("03");
+    show_lines("FF");
+    if (!load(&record, access_value(result)))
+        return 1;
+    decided("loaded again: Ana, method 0, lazy", access_lazy(&record, 0, CROWN, ANA));
+    edited("add edge (1, 0, 1)", access_add(&record, CHECKED_BY, CROWN, ANA));
+    decided("Ana, method 0, lazy", access_lazy(&record, 0, CROWN, ANA));
     return 0;
 }

@@ -9,13 +9,17 @@
  *     pointer beside it, whatever it is, NULL included.
  *   - Buffers do not overlap: out has no byte of bundle, answers has none of bundle and none of calls.
  *   - Nobody else changes bundle or calls, or uses out or answers, before the function returns.
+ *   - The calling thread has 256 kB of stack (measured on x86-64: 114 kB at most).
  *
- * What the caller may rely on: nothing is kept between calls and nothing is allocated, so there is nothing to set up or to free. Any
- * thread may call with its own buffers; bundle and calls may be lent to several calls at once, as they are only read. Every function
- * returns, whatever the bytes are. */
+ * What the caller may rely on: nothing is allocated, and nothing is kept between calls but in the record that a caller lends (further
+ * down), so there is nothing to free. Any thread may call with its own buffers; bundle and calls may be lent to several calls at once,
+ * as they are only read. Every function returns, whatever the bytes are. */
 #ifndef CASE_ACCESS_H
 #define CASE_ACCESS_H
 
+#ifndef __cplusplus
+#include <stdbool.h>
+#endif
 #include <stddef.h>
 #include <stdint.h>
 
@@ -161,6 +165,135 @@ uint64_t access_rewrite(const uint8_t *bundle, size_t bundle_length, uint8_t *ou
  * The value is the count of answers; for a bundle that is refused its number (1 to 9) and the value 0, and answers stays. */
 uint64_t access_replay(const uint8_t *bundle, size_t bundle_length, const uint8_t *calls, size_t calls_length, uint8_t *answers,
                        size_t answers_length);
+
+/* ---- functions on a record, which the caller owns and lends
+ *
+ * A record is loaded once, then asked and edited; each call finds it as the calls before left it:
+ *
+ *   access_record record = ACCESS_RECORD_ZERO;
+ *   if (access_load(&record, bundle, bundle_length) == ACCESS_ACCEPTED)
+ *       decision = access_lazy(&record, method, object, requestor);
+ *
+ * What is asked of a caller, beside the above:
+ *   - A record is zero before it is first lent: by ACCESS_RECORD_ZERO, memset or calloc. Some of its octets are truth values, which
+ *     must be 0 or 1: so octets from elsewhere (a file, another version of the library) are not a record. To keep rules, write them.
+ *     A record of zeros is refused with 19 by every call but access_load.
+ *   - No buffer of a call has an octet of its record.
+ *   - Nobody else uses the record before the function returns, but that several access_write may read it at once. Other records may
+ *     be used at the same time.
+ *
+ * What the caller may rely on: a record is plain data without pointers. It may be copied, by assignment or memcpy, and a copy is a
+ * snapshot; it may be dropped. Two records with the same rules may differ in octets: compare what they write. */
+
+/* What a record takes; it is aligned to 8 octets. */
+#define ACCESS_RECORD_OCTETS 5104
+
+typedef struct access_record {
+    uint64_t opaque[ACCESS_RECORD_OCTETS / 8];
+} access_record;
+
+#define ACCESS_RECORD_ZERO {{0}}
+
+/* Loads a bundle into the record: 0, and the record has its rules. For a bundle that is refused its number (1 to 9) and the line;
+ * the record is then blank (one object and nothing else), so that every question is refused. access_replace keeps the old rules. */
+uint64_t access_load(access_record *record, const uint8_t *bundle, size_t bundle_length);
+
+/* Answers each call in turn, as access_replay does, and leaves the record that the last of them left. The count of answers. */
+uint64_t access_answer(access_record *record, const uint8_t *calls, size_t calls_length, uint8_t *answers, size_t answers_length);
+
+/* Writes the record's rules into out, as a bundle: 0 and the length written, or 18 and the length needed where out is too short, or
+ * 19 and 0 for a record that no bundle loads to; out then stays. The record stays. */
+uint64_t access_write(const access_record *record, uint8_t *out, size_t out_length);
+
+/* ---- one call on a record. A number above 255 is taken as 255, which is no method, no object and no label. */
+
+/* The answer to a question. Number 0: granted, the least set that will do. Number 17: denied. Other numbers: refused. The set is
+ * empty but for a grant; principal p is a member where set >> p & 1. */
+typedef struct access_decision {
+    unsigned number;
+    uint32_t set;
+    unsigned evaluations;
+} access_decision;
+
+/* The answer of liberal and strict; no where the number is not 0. */
+typedef struct access_verdict {
+    unsigned number;
+    bool yes;
+} access_verdict;
+
+static inline uint8_t access_octet(unsigned number)
+{
+    return (uint8_t)(number < 255 ? number : 255);
+}
+
+/* Answers one call of any kind. */
+static inline access_decision access_one(access_record *record, enum access_call kind, unsigned a, unsigned b, unsigned c)
+{
+    const uint8_t call[ACCESS_CALL_OCTETS] = {(uint8_t)kind, access_octet(a), access_octet(b), access_octet(c)};
+    uint8_t answer[ACCESS_ANSWER_OCTETS] = {ACCESS_NOT_LOADABLE, 0, 0, 0, 0};
+    access_decision decision;
+
+    access_answer(record, call, sizeof call, answer, sizeof answer);
+    decision.number = answer[0];
+    decision.set = (uint32_t)answer[1] << 16 | (uint32_t)answer[2] << 8 | answer[3];
+    decision.evaluations = answer[4];
+    return decision;
+}
+
+/* Adds an edge, or removes one: the number. */
+static inline unsigned access_add(access_record *record, unsigned label, unsigned from, unsigned to)
+{
+    return access_one(record, ACCESS_CALL_ADD, label, from, to).number;
+}
+
+static inline unsigned access_remove(access_record *record, unsigned label, unsigned from, unsigned to)
+{
+    return access_one(record, ACCESS_CALL_REMOVE, label, from, to).number;
+}
+
+/* Decides whether the requestor may use the method on the object. Both forms give the same number and set; on equal records lazy
+ * evaluates no more formulas than eager. */
+static inline access_decision access_eager(access_record *record, unsigned method, unsigned object, unsigned requestor)
+{
+    return access_one(record, ACCESS_CALL_EAGER, method, object, requestor);
+}
+
+static inline access_decision access_lazy(access_record *record, unsigned method, unsigned object, unsigned requestor)
+{
+    return access_one(record, ACCESS_CALL_LAZY, method, object, requestor);
+}
+
+static inline access_verdict access_verdict_of(access_decision answer)
+{
+    access_verdict verdict;
+
+    verdict.number = answer.number;
+    verdict.yes = answer.number == ACCESS_ACCEPTED && answer.set == 1;
+    return verdict;
+}
+
+/* Whether all enabled principals together meet the method's guard (liberal), or one alone does (strict). Neither is a decision:
+ * constraints are ignored. The record stays. */
+static inline access_verdict access_liberal(access_record *record, unsigned method, unsigned object, unsigned requestor)
+{
+    return access_verdict_of(access_one(record, ACCESS_CALL_LIBERAL, method, object, requestor));
+}
+
+static inline access_verdict access_strict(access_record *record, unsigned method, unsigned object, unsigned requestor)
+{
+    return access_verdict_of(access_one(record, ACCESS_CALL_STRICT, method, object, requestor));
+}
+
+/* Loads a bundle as access_load does, but a refused one leaves the record as it was: its rules, edits included, stay in force. */
+static inline uint64_t access_replace(access_record *record, const uint8_t *bundle, size_t bundle_length)
+{
+    access_record fresh = ACCESS_RECORD_ZERO;
+    uint64_t result = access_load(&fresh, bundle, bundle_length);
+
+    if (access_number(result) == ACCESS_ACCEPTED)
+        *record = fresh;
+    return result;
+}
 
 #ifdef __cplusplus
 }
