@@ -7,7 +7,8 @@ ghost use Rattle.common.specs.Sets.{member};
 ghost use Rattle.policy.specs.declared.Record as records;
 ghost use Rattle.policy.specs.Loadable as validity;
 ghost use Rattle.justification.specs.Justification as justifications;
-ghost use Rattle.justification.specs.Masked.{Masked, found};
+ghost use Rattle.search.specs.Answers.{foundValues};
+ghost use Rattle.justification.specs.Masked.{Masked, leastValues};
 ghost use Rattle.memo.specs.Walk as walks;
 ghost use Rattle.access.specs.Access as access;
 use justification::Question;
@@ -109,7 +110,7 @@ pub fn ask_eager_given(rules: Record, loads: bool, question: Question) -> Answer
 fn least_among(masks: Masks, allowed: u32) -> Found
     requires { ⌜ masks .count ≤ mostPrincipals ⌝ }
     ensures { λ r. ⌜ ((rules : records.Record) (m a : ℕ) → Masked rules m a masks
-        → found r ≡ justifications.least rules m (λ p. member p allowed)) ⌝ }
+        → foundValues r ≡ leastValues (justifications.least rules m (λ p. member p allowed))) ⌝ }
 {
     let mut open = masks;
     open.allowed = allowed;

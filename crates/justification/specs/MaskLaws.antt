@@ -1,9 +1,11 @@
 -- The candidates of the search over the masks of a record are the sets that pass, and so its answer is the least of them.
 use Prim.Native.Nat.{ℕ, _^_, _<_}
-use mathlib.Core.Path.{_≡_, refl, sym, subst}
+use mathlib.Core.Path.{_≡_, refl, sym, _∙_, ap, subst}
 use mathlib.Core.Logic.{⊎-elim, _↔_}
 use mathlib.Core.Bool.{Bool, true, false, false≢true, not, cond, _&&_}
 use mathlib.Core.List.{List, [], _∷_}
+use mathlib.Core.Option.{Option, none, some}
+use native.Mathlib.Omega.{arith}
 use lib.Dec.{eqb}
 use borrow.Author.Tests.{eqb-true, eq-eqb}
 use Rattle.common.specs.Lists.{at, any, every, those, below, same}
@@ -16,10 +18,12 @@ use Rattle.policy.specs.Table.{exclusion, rows, row}
 use Rattle.search.specs.declared.Masks.{Masks}
 use Rattle.search.specs.declared.Found.{Found}
 use Rattle.search.specs.declared.Found.the-variants.{Set, Nothing}
+use Rattle.search.specs.Answers.{FoundValues, granted, denied, foundValues}
+use Rattle.search.specs.Answers.GrantedOrDenied.{grants, denies}
 use Rattle.search.specs.Search.{Consistent, Given, Met, Candidate, Least}
 use Rattle.justification.specs.Justification.{members, demarcationHas, have, listed, meets, needs, consistent, least}
 use Rattle.justification.specs.Order.{IsLeast}
-use Rattle.justification.specs.Masked.{Masked, excluded, found}
+use Rattle.justification.specs.Masked.{Masked, excluded, leastValues}
 use Rattle.justification.specs.OrderFact.{only-least, least-is}
 
 -- ---- the masks of a record, and a set c of its principals
@@ -166,15 +170,39 @@ candidate-passes r m a s k c l = (
 abbrev passes : Record → ℕ → ℕ → ℕ → Bool
 passes r m a c = (consistent r c && meets r m (members r c)) && every (λ p. member p a) (members r c)
 
-found-least : (r : Record) (m a : ℕ) (s : Masks) → Masked r m a s → (f : Found) → Least s f
-    → IsLeast (r .«principal_count») (passes r m a) (found f)
-found-least r m a s k (Set c) h =
-    let l = subst (λ (n : ℕ). c < 2 ^ n) (k .count) (h .0 .inside) in
-    (l, candidate-passes r m a s k c l .0 (h .0), λ y b t. h .1 y (candidate-passes r m a s k y b .1 t))
-found-least r m a s k Nothing h = λ y b t. h y (candidate-passes r m a s k y b .1 t)
+-- the number and set of the search's answer are those of the least set that passes
+pub least-masked : (r : Record) (m a : ℕ) (s : Masks) → Masked r m a s → {v : FoundValues} → Least s v
+    → v ≡ leastValues (least r m (λ p. member p a))
+unfolding leastValues
+least-masked r m a s k {v} h = go h
+  where
+    is-least : (o : Option ℕ) → IsLeast (r .«principal_count») (passes r m a) o → leastValues o ≡ leastValues (least r m (λ p. member p a))
+    is-least o f =
+        ap leastValues
+        (only-least (r .«principal_count») (passes r m a) o (least r m (λ p. member p a)) f (least-is r m (λ p. member p a)))
 
--- the answer of the search is the least set that passes
-pub least-masked : (r : Record) (m a : ℕ) (s : Masks) → Masked r m a s → (f : Found) → Least s f → found f ≡ least r m (λ p. member p a)
-least-masked r m a s k f h =
-    only-least (r .«principal_count») (passes r m a) (found f) (least r m (λ p. member p a)) (found-least r m a s k f h)
-    (least-is r m (λ p. member p a))
+    go : Least s v → v ≡ leastValues (least r m (λ p. member p a))
+    go (grants c q x) =
+        let l = subst (λ (n : ℕ). c < 2 ^ n) (k .count) (x .candidate .inside) in
+        q
+        ∙ is-least (some c)
+        (l, candidate-passes r m a s k c l .0 (x .candidate), λ y b t. x .first y (candidate-passes r m a s k y b .1 t))
+    go (denies q x) = q ∙ is-least none (λ y b t. x y (candidate-passes r m a s k y b .1 t))
+
+-- and say which set that is, or that there is none
+module _ (o : Option ℕ) {f : Found} (e : foundValues f ≡ leastValues o) where
+  pub least-set : {c : ℕ} → f ≡ Set c → some c ≡ o
+  unfolding leastValues
+  least-set {c} a = go o (ap foundValues (sym a) ∙ e)
+    where
+      go : (o : Option ℕ) → granted c ≡ leastValues o → some c ≡ o
+      go (some d) q = ap (λ (v : FoundValues). some (v .set)) q
+      go none q = let z = ap (λ (v : FoundValues). v .number) q in absurd (omega arith)
+
+  pub least-none : f ≡ Nothing → none ≡ o
+  unfolding leastValues
+  least-none a = go o (ap foundValues (sym a) ∙ e)
+    where
+      go : (o : Option ℕ) → denied ≡ leastValues o → none ≡ o
+      go (some d) q = let z = ap (λ (v : FoundValues). v .number) q in absurd (omega arith)
+      go none q = refl

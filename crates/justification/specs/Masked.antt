@@ -11,8 +11,7 @@ use Rattle.common.specs.Sets.{In}
 use Rattle.closure.specs.Closure.{pairsOf}
 use Rattle.policy.specs.declared.Record.{Record}
 use Rattle.search.specs.declared.Masks.{Masks}
-use Rattle.search.specs.declared.Found.{Found}
-use Rattle.search.specs.declared.Found.the-variants.{Set, Nothing}
+use Rattle.search.specs.Answers.{FoundValues, granted, denied}
 use Rattle.justification.specs.Justification.{demarcationHas, needs}
 
 -- p and q are a pair of these columns, one way or the other
@@ -36,7 +35,7 @@ pub record Masked (r : Record) (m allowed : ℕ) (s : Masks) : Type 0 where
   pub wanted : s .wanted ≡ at (r .«method_privileges») m
   pub bounded : s .wanted < 2 ^ 64
 
--- the answer of the search as a set, or none
-abbrev pub found : Found → Option ℕ
-found (Set c) = some c
-found Nothing = none
+-- the number and set of the least set, or of none
+unfoldable pub leastValues : Option ℕ → FoundValues
+leastValues (some c) = granted c
+leastValues none = denied

@@ -15,9 +15,10 @@ ghost use Rattle.tables.specs.Loads.{pairsLoad};
 ghost use Rattle.policy.specs.Table.{Kind};
 ghost use Rattle.policy.specs.Loadable.{tableLoads};
 ghost use Rattle.policy.specs.Loadable as validity;
+ghost use Rattle.search.specs.Answers.{foundValues};
 ghost use Rattle.justification.specs.Justification.{demarcationHas};
 ghost use Rattle.justification.specs.Justification as justification;
-ghost use Rattle.justification.specs.Masked.{AmongPairs, Masked, found};
+ghost use Rattle.justification.specs.Masked.{AmongPairs, Masked, leastValues};
 ghost use Rattle.justification.specs.Predicates.{isUserIn, questionRefusal};
 ghost use Rattle.justification.specs.MarkedSets.{Marks};
 use common::MOST_EXCLUSIONS;
@@ -206,7 +207,7 @@ pub fn masks_of(rules: Record, method: usize, allowed: u32) -> Masks
 // The least consistent set of allowed principals that meets the guard of a method.
 pub fn least(rules: Record, method: usize, allowed: u32) -> Found
     requires { ⌜ ((j : Kind) → tableLoads rules j ≡ true) × (method < rules .«method_count») ⌝ }
-    ensures { λ r. ⌜ found r ≡ justification.least rules method (λ p. member p allowed) ⌝ }
+    ensures { λ r. ⌜ foundValues r ≡ leastValues (justification.least rules method (λ p. member p allowed)) ⌝ }
 {
     let masks = masks_of(rules, method, allowed);
     search::least(masks)

@@ -1,20 +1,21 @@
 -- What `nextOf` found at an offset: the text's end or a line of another kind, a refused line, or a line of the kind.
 use Prim.Native.Nat.{ℕ, _+_, _*_, _≤_, _<_}
 use mathlib.Core.Path.{_≡_, refl, sym, _∙_, ap, subst}
-use mathlib.Core.Logic.{_≢_, _⊎_, inl, inr, ⊎-elim}
-use mathlib.Core.Bool.{Bool, true, false, cond}
+use mathlib.Core.Logic.{_≢_}
+use mathlib.Core.Bool.{Bool, true, false, false≢true}
 use mathlib.Core.List.{List, [], _∷_}
 use native.Mathlib.Omega.{arith}
 use native.Mathlib.Decide.{decLt}
 use lib.ListN.{length, getD, drop, drop-of-length-le}
 use lib.Dec.{eqb}
-use borrow.Author.Tests.{lt-ltb, le-ltb, eq-eqb, eqb-true, eqb-false}
+use borrow.Author.Tests.{lt-ltb, le-ltb, eqb-true, eqb-false}
 use Rattle.common.specs.Refusals.{wrongKind}
 use Rattle.octets.specs.Line.{Framed, refused, octets, kindOctet, total, lineOf, frame}
-use Rattle.octets.specs.LineLaws.{accepted}
+use Rattle.octets.specs.LineLaws.{accepted, refused-is}
 use Rattle.octets.specs.WritingLaws.{Octets, octets-of-pairs}
+use Rattle.lines.specs.declared.Next.{Next}
 use Rattle.lines.specs.declared.Next.the-variants.{Other, Refused, Body}
-use Rattle.lines.specs.NextLine.{nextIs, nextOf}
+use Rattle.lines.specs.NextLine.{NextValues, noLine, refusedLine, bodyLine, nextValues, nextIs, nextOf}
 use Rattle.lines.specs.Judging.{mostLineSum}
 
 -- a line of the kind and size
@@ -58,32 +59,52 @@ unfolding frame
 none-framed e = let z : _≡_ {A = ℕ} 0 1 = cc in omega arith
 
 module _ (text : List ℕ) (offset kind size : ℕ) where
-  at-offset : offset < length text → nextOf text offset kind size ≡ nextIs offset kind size (frame (drop offset text))
-  unfolding nextOf
-  at-offset l = rw (lt-ltb offset (length text) l)
+  -- what may stand there
+  pub data Stands : Type 0 where
+    past : length text ≤ offset → nextOf text offset kind size ≡ noLine → Stands
+    not-framed :
+        offset < length text → {k : ℕ} → frame (drop offset text) ≡ refused k → nextOf text offset kind size ≡ refusedLine k → Stands
+    of-another-kind :
+        offset < length text → {os : List ℕ} → frame (drop offset text) ≡ octets os → kindOctet os ≢ kind
+        → nextOf text offset kind size ≡ noLine → Stands
+    of-another-size :
+        offset < length text → {os : List ℕ} → frame (drop offset text) ≡ octets os → kindOctet os ≡ kind → length os ≢ size
+        → nextOf text offset kind size ≡ refusedLine wrongKind → Stands
+    of-the-kind :
+        offset < length text → {os : List ℕ} → frame (drop offset text) ≡ octets os → kindOctet os ≡ kind → length os ≡ size
+        → nextOf text offset kind size ≡ bodyLine (offset + 2 * length os + 1) (total os) → Stands
 
-  past-text : length text ≤ offset → nextOf text offset kind size ≡ Other
+  pub stands : Stands
   unfolding nextOf
-  past-text l = rw (le-ltb offset (length text) l)
-
-  past-or-within : (length text ≤ offset) ⊎ (offset < length text)
-  past-or-within = go (decLt offset (length text))
+  stands = go (decLt offset (length text))
     where
-      go : Dec (offset < length text) → (length text ≤ offset) ⊎ (offset < length text)
-      go (yes l) = inr l
-      go (no h) = inl (omega arith)
+      pick : (l : offset < length text) (os : List ℕ) → frame (drop offset text) ≡ octets os
+          → nextOf text offset kind size ≡ nextIs offset kind size (octets os)
+          → (x y : Bool) → eqb (kindOctet os) kind ≡ x → eqb (length os) size ≡ y
+          → Stands
+      pick l os f e true true p q = of-the-kind l f (eqb-true _ _ p) (eqb-true _ _ q) (e ∙ rw (p, q))
+      pick l os f e true false p q = of-another-size l f (eqb-true _ _ p) (eqb-false _ _ q) (e ∙ rw (p, q))
+      pick l os f e false y p q = of-another-kind l f (eqb-false _ _ p) (e ∙ rw p)
+
+      framed-as : (l : offset < length text) (f : Framed) → frame (drop offset text) ≡ f
+          → nextOf text offset kind size ≡ nextIs offset kind size f → Stands
+      framed-as l (refused k) f e = not-framed l f e
+      framed-as l (octets os) f e = pick l os f e (eqb (kindOctet os) kind) (eqb (length os) size) refl refl
+
+      go : Dec (offset < length text) → Stands
+      go (yes l) = framed-as l (frame (drop offset text)) refl (rw (lt-ltb offset (length text) l))
+      go (no h) = let l : length text ≤ offset = omega arith in past l (rw (le-ltb offset (length text) l))
 
   -- another kind, or the text's end
-  pub other-kind : nextOf text offset kind size ≡ Other → {os : List ℕ} → frame (drop offset text) ≡ octets os → kindOctet os ≢ kind
-  other-kind n {os} e same =
-      ⊎-elim
-      (λ l. none-framed (sym (ap frame (drop-of-length-le text l)) ∙ e))
-      (λ l. clash (eqb (length os) size) (sym (at-offset l ∙ ap (nextIs offset kind size) e ∙ rw (eq-eqb (kindOctet os) kind same)) ∙ n))
-      past-or-within
+  pub other-kind : nextOf text offset kind size ≡ noLine → {os : List ℕ} → frame (drop offset text) ≡ octets os → kindOctet os ≢ kind
+  other-kind n {os} e = go stands
     where
-      clash : (x : Bool) → cond x (Body (offset + 2 * length os + 1) (total os)) (Refused wrongKind) ≡ Other → ⊥
-      clash true z = let q : _≡_ {A = ℕ} 0 1 = cc in omega arith
-      clash false z = let q : _≡_ {A = ℕ} 0 1 = cc in omega arith
+      go : Stands → kindOctet os ≢ kind
+      go (past l f) = absurd (none-framed (sym (ap frame (drop-of-length-le text l)) ∙ e))
+      go (not-framed l g f) = let z : _≡_ {A = ℕ} 0 1 = cc in absurd (omega arith)
+      go (of-another-kind l {os = ps} g h f) = let q : ps ≡ os = cc in subst (λ (u : List ℕ). kindOctet u ≢ kind) q h
+      go (of-another-size l g o d f) = absurd (false≢true (ap (λ (v : NextValues). v .read) (sym n ∙ f)))
+      go (of-the-kind l g o d f) = absurd (false≢true (ap (λ (v : NextValues). v .read) (sym n ∙ f)))
 
   -- a refused line: not framed, or of this kind and another size
   pub data RefusedLine (n : ℕ) : Type 0 where
@@ -92,56 +113,64 @@ module _ (text : List ℕ) (offset kind size : ℕ) where
         offset < length text → {os : List ℕ} → frame (drop offset text) ≡ octets os → kindOctet os ≡ kind → length os ≢ size → n ≡ wrongKind
         → RefusedLine n
 
-  pub refused-line : {n : ℕ} → nextOf text offset kind size ≡ Refused n → RefusedLine n
-  refused-line {n} e =
-      ⊎-elim (λ l. absurd (let z : _≡_ {A = ℕ} 0 1 = cc (past-text l) in omega arith)) (λ l. go l (frame (drop offset text)) refl)
-      past-or-within
+  pub refused-line : {n : ℕ} → nextOf text offset kind size ≡ refusedLine n → RefusedLine n
+  refused-line {n} e = go stands
     where
-      pick : (l : offset < length text) (os : List ℕ) → frame (drop offset text) ≡ octets os → (x y : Bool) → eqb (kindOctet os) kind ≡ x
-          → eqb (length os) size ≡ y → cond x (cond y (Body (offset + 2 * length os + 1) (total os)) (Refused wrongKind)) Other ≡ Refused n
-          → RefusedLine n
-      pick l os f true true p q z = absurd (let u : _≡_ {A = ℕ} 0 1 = cc in omega arith)
-      pick l os f true false p q z = other-size l f (eqb-true _ _ p) (eqb-false _ _ q) (let u : wrongKind ≡ n = cc in sym u)
-      pick l os f false y p q z = absurd (let u : _≡_ {A = ℕ} 0 1 = cc in omega arith)
+      go : Stands → RefusedLine n
+      go (past l f) = absurd (false≢true (ap (λ (v : NextValues). v .read) (sym f ∙ e)))
+      go (not-framed l g f) = unframed l (g ∙ ap (λ (v : NextValues). refused (v .number)) (sym f ∙ e))
+      go (of-another-kind l g h f) = absurd (false≢true (ap (λ (v : NextValues). v .read) (sym f ∙ e)))
+      go (of-another-size l g o d f) = other-size l g o d (ap (λ (v : NextValues). v .number) (sym e ∙ f))
+      go (of-the-kind l g o d f) = let z = ap (λ (v : NextValues). v .next) (sym e ∙ f) in absurd (omega arith)
 
-      go : (l : offset < length text) (f : Framed) → frame (drop offset text) ≡ f → RefusedLine n
-      go l (refused k) f = unframed l (f ∙ (let u : refused k ≡ refused n = cc (at-offset l, f, e) in u))
-      go l (octets os) f =
-          pick l os f (eqb (kindOctet os) kind) (eqb (length os) size) refl refl (sym (at-offset l ∙ ap (nextIs offset kind size) f) ∙ e)
+  pub refused-some : {n : ℕ} → nextOf text offset kind size ≡ refusedLine n → n ≢ 0
+  refused-some {n} e z = go (refused-line e)
+    where
+      go : RefusedLine n → ⊥
+      go (unframed l f) = let b = refused-is _ f in omega arith
+      go (other-size l f o d w) = omega arith
 
   -- a line of this kind and size
-  pub found-line : {next sum : ℕ} → nextOf text offset kind size ≡ Body next sum → FoundLine text offset kind size next sum
-  found-line {next} {sum} e =
-      ⊎-elim (λ l. absurd (let z : _≡_ {A = ℕ} 0 1 = cc (past-text l) in omega arith)) (λ l. go l (frame (drop offset text)) refl)
-      past-or-within
+  pub found-line : {next sum : ℕ} → nextOf text offset kind size ≡ bodyLine next sum → FoundLine text offset kind size next sum
+  found-line {next} {sum} e = go stands
     where
-      pick : (l : offset < length text) (os : List ℕ) → frame (drop offset text) ≡ octets os → (x y : Bool) → eqb (kindOctet os) kind ≡ x
-          → eqb (length os) size ≡ y
-          → cond x (cond y (Body (offset + 2 * length os + 1) (total os)) (Refused wrongKind)) Other ≡ Body next sum
-          → FoundLine text offset kind size next sum
-      pick l os f true true p q z =
+      go : Stands → FoundLine text offset kind size next sum
+      go (past l f) = absurd (false≢true (ap (λ (v : NextValues). v .read) (sym f ∙ e)))
+      go (not-framed l g f) =
+          let z = ap (λ (v : NextValues). v .number) (sym e ∙ f) in let k = refused-is (drop offset text) g in absurd (omega arith)
+      go (of-another-kind l g h f) = absurd (false≢true (ap (λ (v : NextValues). v .read) (sym f ∙ e)))
+      go (of-another-size l g o d f) = let z = ap (λ (v : NextValues). v .number) (sym e ∙ f) in absurd (omega arith)
+      go (of-the-kind l {os = os} g o d f) =
           record {
             os = os;
             within = l;
-            framed = f;
-            ours = eqb-true _ _ p;
-            sized = eqb-true _ _ q;
-            follows = (let u : offset + 2 * length os + 1 ≡ next = cc in sym u);
-            summed = (let u : total os ≡ sum = cc in sym u);
+            framed = g;
+            ours = o;
+            sized = d;
+            follows = ap (λ (v : NextValues). v .next) (sym e ∙ f);
+            summed = ap (λ (v : NextValues). v .total) (sym e ∙ f);
           }
-      pick l os f true false p q z = absurd (let u : _≡_ {A = ℕ} 0 1 = cc in omega arith)
-      pick l os f false y p q z = absurd (let u : _≡_ {A = ℕ} 0 1 = cc in omega arith)
-
-      go : (l : offset < length text) (f : Framed) → frame (drop offset text) ≡ f → FoundLine text offset kind size next sum
-      go l (refused k) f = absurd (let z : _≡_ {A = ℕ} 0 1 = cc (at-offset l, f, e) in omega arith)
-      go l (octets os) f =
-          pick l os f (eqb (kindOctet os) kind) (eqb (length os) size) refl refl (sym (at-offset l ∙ ap (nextIs offset kind size) f) ∙ e)
 
   -- a line of another kind
-  pub other-line : offset < length text → nextOf text offset kind size ≡ Other
+  pub other-line : offset < length text → nextOf text offset kind size ≡ noLine
       → (os : List ℕ) × (frame (drop offset text) ≡ octets os) × (kindOctet os ≢ kind)
-  other-line l e = go (frame (drop offset text)) refl
+  other-line l e = go stands
     where
-      go : (f : Framed) → frame (drop offset text) ≡ f → (os : List ℕ) × (frame (drop offset text) ≡ octets os) × (kindOctet os ≢ kind)
-      go (refused k) f = absurd (let z : _≡_ {A = ℕ} 0 1 = cc (at-offset l, f, e) in omega arith)
-      go (octets os) f = (os, f, other-kind e f)
+      go : Stands → (os : List ℕ) × (frame (drop offset text) ≡ octets os) × (kindOctet os ≢ kind)
+      go (past m f) = absurd (omega arith)
+      go (not-framed m g f) = absurd (false≢true (ap (λ (v : NextValues). v .read) (sym e ∙ f)))
+      go (of-another-kind m {os = os} g h f) = (os, g, h)
+      go (of-another-size m g o d f) = absurd (false≢true (ap (λ (v : NextValues). v .read) (sym e ∙ f)))
+      go (of-the-kind m g o d f) = absurd (false≢true (ap (λ (v : NextValues). v .read) (sym e ∙ f)))
+
+  -- the number and values say which answer it is
+  pub same-next : (a b : Next) → nextValues a ≡ nextOf text offset kind size → nextValues b ≡ nextOf text offset kind size → a ≡ b
+  same-next Other Other e f = refl
+  same-next Other (Refused k) e f = absurd (false≢true (ap (λ (v : NextValues). v .read) (e ∙ sym f)))
+  same-next Other (Body n m) e f = absurd (false≢true (ap (λ (v : NextValues). v .read) (e ∙ sym f)))
+  same-next (Refused k) Other e f = absurd (false≢true (ap (λ (v : NextValues). v .read) (f ∙ sym e)))
+  same-next (Refused k) (Refused j) e f = ap (λ (v : NextValues). Refused (v .number)) (e ∙ sym f)
+  same-next (Refused k) (Body n m) e f = absurd (refused-some (sym e) (ap (λ (v : NextValues). v .number) (e ∙ sym f)))
+  same-next (Body n m) Other e f = absurd (false≢true (ap (λ (v : NextValues). v .read) (f ∙ sym e)))
+  same-next (Body n m) (Refused k) e f = absurd (refused-some (sym f) (ap (λ (v : NextValues). v .number) (f ∙ sym e)))
+  same-next (Body n m) (Body x y) e f = ap (λ (v : NextValues). Body (v .next) (v .total)) (e ∙ sym f)

@@ -1,4 +1,5 @@
 pub mod NextLaws
 mod Numbers
 pub mod FoundLine
+pub mod JudgedLine
 pub mod EachKind

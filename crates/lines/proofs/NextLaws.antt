@@ -13,11 +13,10 @@ use Rattle.octets.specs.Line.{refused, octets, kindOctet, frame}
 use Rattle.octets.specs.LineLaws.{accepted, octet-at}
 use Rattle.octets.specs.Answers.{octetAt}
 use Rattle.octets.specs.AnswerLaws.{AnswerOctets}
-use Rattle.lines.specs.declared.Next.the-variants.{Other, Refused, Body}
-use Rattle.lines.specs.NextLine.{nextIs, nextOf}
+use Rattle.lines.specs.NextLine.{noLine, refusedLine, bodyLine, nextIs, nextOf}
 
 module _ (text : List ℕ) (offset kind size : ℕ) where
-  pub next-end : length text ≤ offset → Other ≡ nextOf text offset kind size
+  pub next-end : length text ≤ offset → noLine ≡ nextOf text offset kind size
   unfolding nextOf
   next-end l = rw (le-ltb offset (length text) l)
 
@@ -26,7 +25,7 @@ module _ (text : List ℕ) (offset kind size : ℕ) where
     unfolding nextOf
     here = rw (lt-ltb offset (length text) l)
 
-    pub next-refused : {k : ℕ} → frame (drop offset text) ≡ refused k → Refused k ≡ nextOf text offset kind size
+    pub next-refused : {k : ℕ} → frame (drop offset text) ≡ refused k → refusedLine k ≡ nextOf text offset kind size
     next-refused e = sym (here ∙ ap (nextIs offset kind size) e)
 
     module _ {count next sum : ℕ} (t : AnswerOctets offset count next sum (frame (drop offset text))) where
@@ -37,16 +36,16 @@ module _ (text : List ℕ) (offset kind size : ℕ) where
       says : octetAt (drop offset text) 1 ≡ kindOctet (t .os)
       says = octet-at (drop offset text) 1 (t .framed) (let h = accepted (t .framed) .long in omega arith)
 
-      pub next-other : {o : ℕ} → o ≡ octetAt (drop offset text) 1 → o ≢ kind → Other ≡ nextOf text offset kind size
+      pub next-other : {o : ℕ} → o ≡ octetAt (drop offset text) 1 → o ≢ kind → noLine ≡ nextOf text offset kind size
       next-other e ne = sym (found ∙ rw (ne-eqb (kindOctet (t .os)) kind (λ z. ne (e ∙ says ∙ z))))
 
       module _ {o : ℕ} (e : o ≡ octetAt (drop offset text) 1) (k : o ≡ kind) where
         ours : eqb (kindOctet (t .os)) kind ≡ true
         ours = eq-eqb _ _ (sym (e ∙ says) ∙ k)
 
-        pub next-size : count ≢ size → Refused wrongKind ≡ nextOf text offset kind size
+        pub next-size : count ≢ size → refusedLine wrongKind ≡ nextOf text offset kind size
         next-size ne = sym (found ∙ rw (ours, ne-eqb (length (t .os)) size (λ z. ne (t .counted ∙ z))))
 
-        pub next-body : count ≡ size → Body next sum ≡ nextOf text offset kind size
+        pub next-body : count ≡ size → bodyLine next sum ≡ nextOf text offset kind size
         next-body s =
-            sym (found ∙ rw (ours, eq-eqb (length (t .os)) size (sym (t .counted) ∙ s)) (sym (λ i. Body (t .follows i) (t .summed i))))
+            sym (found ∙ rw (ours, eq-eqb (length (t .os)) size (sym (t .counted) ∙ s)) (sym (λ i. bodyLine (t .follows i) (t .summed i))))

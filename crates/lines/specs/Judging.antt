@@ -1,9 +1,9 @@
 -- A line of any kind that has a table, by the numbers that its body may hold (`Row`): what refuses it, and what comes after it.
 use Prim.Native.Nat.{ℕ, _+_, _*_, _≤_, _<_}
 use mathlib.Core.Path.{_≡_}
-use mathlib.Core.Logic.{_≢_}
-use mathlib.Core.Bool.{false, not, cond, _&&_}
+use mathlib.Core.Bool.{Bool, true, false, not, cond, _&&_}
 use mathlib.Core.List.{List, [], _∷_}
+use mathlib.Core.Option.{Option, none, some}
 use lib.ListN.{drop}
 use lib.Dec.{ltb, leb, eqb}
 use Rattle.common.specs.Lists.{at}
@@ -15,14 +15,12 @@ use Rattle.policy.specs.Table.{head, user, edge, formula, demarcation, hierarch
 use Rattle.policy.specs.Rows.{key}
 use Rattle.rows.specs.Op.{opOf, heightOf, formulaInRange}
 use Rattle.rows.specs.Checks.{edgeInRange, pairInRange, edgeKey, pairKey, causes}
-use Rattle.lines.specs.declared.Next.the-variants.{Body}
-use Rattle.lines.specs.declared.Next.the-variants as next
 use Rattle.lines.specs.declared.Row.{Row}
 use Rattle.lines.specs.declared.Bounds.{Bounds}
 use Rattle.lines.specs.declared.Cursor.{Cursor}
 use Rattle.lines.specs.declared.Judged.{Judged}
 use Rattle.lines.specs.declared.Judged.the-variants.{Other, Refused, Taken}
-use Rattle.lines.specs.NextLine.{nextOf, numberAt}
+use Rattle.lines.specs.NextLine.{NextValues, nextOf, numberAt}
 
 -- a kind octet between the head's and the end's
 pub record TableKind (kind : ℕ) : Type 0 where
@@ -101,27 +99,52 @@ pub record CursorBound (c : Cursor) : Type 0 where
 abbrev pub movedPast : Cursor → ℕ → ℕ → ℕ → Cursor
 movedPast c kind next sum = record { number = 0; offset = next; lines = c .lines + 1; last = kind; sum = c .sum + sum }
 
--- what the answers of `judged_line` say, of a line of a kind and size that is held to the bounds m and the heights of formulas before it
+-- a line that is taken: its numbers, a formula's height, the least key that may follow it, and the cursor past it
+pub record TakenValues : Type 0 where
+  pub row : Row
+  pub height : ℕ
+  pub leastKey : ℕ
+  pub cursor : Cursor
+
+-- document 01's number and values of what a reader of lines of one kind makes of the line at its cursor
+pub record JudgedValues : Type 0 where
+  -- whether a line is read there, as in `NextValues`
+  pub read : Bool
+  -- 1 to 7 of a refused line, else 0
+  pub number : ℕ
+  pub taken : Option TakenValues
+
+abbrev pub notTaken : Bool → ℕ → JudgedValues
+notTaken read number = record { read = read; number = number; taken = none }
+
+abbrev pub takenWith : TakenValues → JudgedValues
+takenWith t = record { read = true; number = 0; taken = some t }
+
+-- of each case of an answer of `judged_line`
+abbrev pub judgedValues : Judged → JudgedValues
+judgedValues Other = notTaken false 0
+judgedValues (Refused k) = notTaken true k
+judgedValues (Taken row height leastKey cursor) = takenWith (record { row = row; height = height; leastKey = leastKey; cursor = cursor })
+
+-- of the line at a cursor, as one of a kind and size that is held to the bounds m and the heights of the formulas before it
 module _ (text : List ℕ) (c : Cursor) (kind size : ℕ) (m : Bounds) (heights : ℕ → ℕ) where
-  -- refused: as a line, or by its numbers
-  pub data Refuses (n : ℕ) : Type 0 where
-    as-line : nextOf text (c .offset) kind size ≡ next.Refused n → Refuses n
-    by-numbers :
-        {following sum : ℕ} → nextOf text (c .offset) kind size ≡ Body following sum → {v : Row} → v ≡ rowAt kind (drop (c .offset) text)
-        → {h : ℕ} → h ≡ heightBy kind v heights → n ≡ refusalBy (kindOf kind) m h v → n ≢ 0 → Refuses n
+  -- a line of the kind, by its numbers v and its height h
+  abbrev pub judgedRow : NextValues → Row → ℕ → JudgedValues
+  judgedRow line v h =
+      cond (eqb (refusalBy (kindOf kind) m h v) 0)
+      (takenWith (record {
+        row = v;
+        height = h;
+        leastKey = key (kindOf kind) (fieldsOf (kindOf kind) v) + 1;
+        cursor = movedPast c kind (line .next) (line .total);
+      }))
+      (notTaken true (refusalBy (kindOf kind) m h v))
 
-  -- taken: its numbers, its height, the least key that may follow, and the cursor past it
-  pub record Takes (v : Row) (h minimumKey : ℕ) (further : Cursor) : Type 0 where
-    pub following : ℕ
-    pub sum : ℕ
-    pub found : nextOf text (c .offset) kind size ≡ Body following sum
-    pub row : v ≡ rowAt kind (drop (c .offset) text)
-    pub height : h ≡ heightBy kind v heights
-    pub passes : refusalBy (kindOf kind) m h v ≡ 0
-    pub least : minimumKey ≡ key (kindOf kind) (fieldsOf (kindOf kind) v) + 1
-    pub moved : further ≡ movedPast c kind following sum
+  abbrev pub judgedNext : NextValues → JudgedValues
+  judgedNext line =
+      cond (line .read && eqb (line .number) 0)
+      (judgedRow line (rowAt kind (drop (c .offset) text)) (heightBy kind (rowAt kind (drop (c .offset) text)) heights))
+      (notTaken (line .read) (line .number))
 
-  abbrev pub Judges : Judged → Type 0
-  Judges Other = nextOf text (c .offset) kind size ≡ next.Other
-  Judges (Refused n) = Refuses n
-  Judges (Taken v h minimumKey further) = Takes v h minimumKey further
+  unfoldable pub judgedOf : JudgedValues
+  judgedOf = judgedNext (nextOf text (c .offset) kind size)

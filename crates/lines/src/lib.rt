@@ -6,9 +6,9 @@ ghost use lib.ListN.{drop};
 ghost use Rattle.common.specs.Lists.{at};
 ghost use Rattle.policy.specs.Table.{kindOf};
 ghost use Rattle.policy.specs.Rows.{key};
-ghost use Rattle.lines.specs.NextLine.{nextOf, numberAt};
+ghost use Rattle.lines.specs.NextLine.{nextValues, nextOf, numberAt};
 ghost use Rattle.lines.specs.Judging.{TableKind, wideAt, rowAt, fieldsOf, heightBy, refusalBy, HeightsLow};
-ghost use Rattle.lines.specs.Judging.{mostLineSum, CursorBound, movedPast, Judges};
+ghost use Rattle.lines.specs.Judging.{mostLineSum, CursorBound, movedPast, judgedValues, judgedOf};
 use common::MOST_FORMULAS;
 use octets::Line;
 
@@ -26,7 +26,7 @@ pub enum Next {
 
 // Reads the line at an offset as one of a kind, whose lines have so many octets.
 pub fn next_line(text: &[u8], offset: usize, kind: u8, size: usize) -> Next
-    ensures { λ r. ⌜ r ≡ nextOf (now (text .entry)) offset kind size ⌝ }
+    ensures { λ r. ⌜ nextValues r ≡ nextOf (now (text .entry)) offset kind size ⌝ }
 {
     if text.len() <= offset {
         return Next::Other;
@@ -234,7 +234,7 @@ pub fn judged_line(
     heights: &[u8; MOST_FORMULAS],
 ) -> Judged
     requires { ⌜ TableKind kind × CursorBound cursor × HeightsLow kind (now heights) ⌝ }
-    ensures { λ r. ⌜ Judges (now (text .entry)) cursor kind size bounds (at (now (heights .entry))) r ⌝ }
+    ensures { λ r. ⌜ judgedValues r ≡ judgedOf (now (text .entry)) cursor kind size bounds (at (now (heights .entry))) ⌝ }
 {
     let offset = cursor.offset;
     match next_line(text, offset, kind, size) {

@@ -19,8 +19,7 @@ use Rattle.octets.specs.LineLaws.{accepted, lines-none, lines-cons}
 use Rattle.policy.specs.declared.Record.{Record}
 use Rattle.policy.specs.Table.{hierarchy, prerequisite, end, code, rows, appended, kindOf}
 use Rattle.policy.specs.Rows.{inRange, rowCauses}
-use Rattle.lines.specs.declared.Next.the-variants.{Other, Refused}
-use Rattle.lines.specs.NextLine.{nextOf, numberAt}
+use Rattle.lines.specs.NextLine.{noLine, refusedLine, nextOf, numberAt}
 use Rattle.lines.proofs.FoundLine.{FoundLine, kind-octet, refused-line, other-line}
 use Rattle.reading.specs.declared.Stage.{Stage}
 use Rattle.reading.specs.Body.{numbers}
@@ -75,7 +74,7 @@ module _ (text : List ℕ) (s : Stage) (z : s .cursor .number ≡ 0) (r : Ready 
       ∙ rw (ne-eqb (s .cursor .last) 0xFF not-ended))
 
   -- a line of another kind
-  pub finish-other : s .cursor .offset < length text → nextOf text (s .cursor .offset) 0xFF 9 ≡ Other
+  pub finish-other : s .cursor .offset < length text → nextOf text (s .cursor .offset) 0xFF 9 ≡ noLine
       → notLoaded wrongKind (s .cursor .lines + 1) ≡ loadedFrom text s
   finish-other l e =
       let (os, f, h) = other-line text (s .cursor .offset) 0xFF 9 l e in
@@ -89,7 +88,8 @@ module _ (text : List ℕ) (s : Stage) (z : s .cursor .number ≡ 0) (r : Ready 
       wrong os f h (yes q) = r .others os f (let c = kind-octet _ f in omega arith)
       wrong os f h (no q) = misplaced-other (reading s) (kindOf (kindOctet os)) os q
 
-  pub finish-unread : (n : ℕ) → nextOf text (s .cursor .offset) 0xFF 9 ≡ Refused n → notLoaded n (s .cursor .lines + 1) ≡ loadedFrom text s
+  pub finish-unread : (n : ℕ) → nextOf text (s .cursor .offset) 0xFF 9 ≡ refusedLine n
+      → notLoaded n (s .cursor .lines + 1) ≡ loadedFrom text s
   finish-unread n e =
       sym (on ∙ refused-reading (reading s) text (s .cursor .offset) end 9 n refl (refused-line text (s .cursor .offset) 0xFF 9 e) .1)
 

@@ -16,8 +16,7 @@ use Rattle.common.specs.Refusals.{wrongCharacters, wrongLength, wrongSum}
 use Rattle.octets.specs.Line.{digitValue, isDigit, octet, lineOf, ended, pairs, octetsOf, total}
 use Rattle.octets.specs.Line.{Framed, refused, octets, judged, frame}
 use Rattle.octets.specs.LineLaws.{not-end}
-use Rattle.octets.specs.Answers.{lineAnswer, answerAtEnd}
-use Rattle.octets.specs.declared.Line.the-variants.{Refused, Octets}
+use Rattle.octets.specs.Answers.{LineValues, refusedWith, acceptedWith, framedValues, valuesAtEnd}
 
 -- a line l of which the octets os have been read already; e says whether it has an end
 pub from : List ℕ → Bool → List ℕ → Framed
@@ -177,15 +176,15 @@ module _ {s : List ℕ} {offset i n first sum plain : ℕ} (r : Run s offset i n
     run-other₂ ne k h = r .same ∙ ap (fromText (r .os)) (drop-two s i k) ∙ other₂ (r .os) _ _ (drop (i + 2) s) ne h
 
     -- the line's end
-    pub run-end : at s i ≡ 10 → answerAtEnd n first sum (i + 1) plain ≡ lineAnswer offset (frame (drop offset s))
-    unfolding answerAtEnd
+    pub run-end : at s i ≡ 10 → valuesAtEnd n first sum (i + 1) plain ≡ framedValues offset (frame (drop offset s))
+    unfolding valuesAtEnd
     run-end e =
         let f : frame (drop offset s) ≡ cond (ltb 0 (length (r .os))) (judged (r .os)) (refused wrongCharacters) =
         r .same ∙ ap (fromText (r .os)) (drop-one s i l ∙ ap (λ (b : ℕ). b ∷ drop (i + 1) s) e) ∙ at-end (r .os) (drop (i + 1) s) in
         let m : i + 1 ≡ offset + 2 * length (r .os) + 1 = omega (arith, r .count, r .stands) in
-        (λ j. answerAtEnd (r .count j) (r .head j) (r .adds j) (m j) plain)
+        (λ j. valuesAtEnd (r .count j) (r .head j) (r .adds j) (m j) plain)
         ∙ pick (r .os) plain (eqb (at (r .os) 0 + 3) (length (r .os))) (eqb (total (r .os) % 256) 0) (λ t. exact (eqb-true _ _ t))
-        ∙ ap (lineAnswer offset) (sym f)
+        ∙ ap (framedValues offset) (sym f)
       where
         -- a line that is not too long has a sum that fits
         exact : at (r .os) 0 + 3 ≡ length (r .os) → plain ≡ total (r .os)
@@ -199,12 +198,13 @@ module _ {s : List ℕ} {offset i n first sum plain : ℕ} (r : Run s offset i n
 
         pick : (os : List ℕ) (p : ℕ) (y z : Bool) → (y ≡ true → p ≡ total os)
             → cond (eqb (length os) 0)
-            (Refused wrongCharacters)
-            (cond y (cond z (Octets (length os) (offset + 2 * length os + 1) p) (Refused wrongSum)) (Refused wrongLength))
-            ≡ lineAnswer offset (cond (ltb 0 (length os))
+            (refusedWith wrongCharacters)
+            (cond y (cond z (acceptedWith (length os) (offset + 2 * length os + 1) p) (refusedWith wrongSum)) (refusedWith wrongLength))
+            ≡ framedValues offset (cond (ltb 0 (length os))
             (cond y (cond z (octets os) (refused wrongSum)) (refused wrongLength))
             (refused wrongCharacters))
         pick [] p y z h = refl
-        pick (o ∷ os) p true true h = rw (some os, none os) (ap (Octets (length (o ∷ os)) (offset + 2 * length (o ∷ os) + 1)) (h refl))
+        pick (o ∷ os) p true true h =
+            rw (some os, none os) (ap (acceptedWith (length (o ∷ os)) (offset + 2 * length (o ∷ os) + 1)) (h refl))
         pick (o ∷ os) p true false h = rw (some os, none os)
         pick (o ∷ os) p false z h = rw (some os, none os)

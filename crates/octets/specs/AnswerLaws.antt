@@ -1,16 +1,14 @@
--- What an answer of `read_line` says of the line.
+-- What an answer of `read_line` says of the line, by its number and values; no other answer has them.
 use Prim.Native.Nat.{ℕ, _+_, _*_}
-use mathlib.Core.Path.{_≡_, refl}
+use mathlib.Core.Path.{_≡_, refl, sym, _∙_, ap}
 use mathlib.Core.List.{List}
 use native.Mathlib.Omega.{arith}
 use lib.ListN.{length}
-use Rattle.octets.specs.Line.{Framed, refused, octets, total}
-use Rattle.octets.specs.Answers.{lineAnswer}
+use Rattle.octets.specs.Line.{Framed, refused, octets, total, frame}
+use Rattle.octets.specs.LineLaws.{refused-is}
+use Rattle.octets.specs.Answers.{LineValues, lineValues, framedValues}
+use Rattle.octets.specs.declared.Line.{Line}
 use Rattle.octets.specs.declared.Line.the-variants.{Refused, Octets}
-
-pub answer-refused : (offset k : ℕ) (f : Framed) → lineAnswer offset f ≡ Refused k → f ≡ refused k
-answer-refused offset k (refused j) e = cc
-answer-refused offset k (octets os) e = let n : _≡_ {A = ℕ} 0 1 = cc in absurd (omega arith)
 
 -- the line has octets; their count, the next offset and the plain sum are those answered
 pub record AnswerOctets (offset count next sum : ℕ) (f : Framed) : Type 0 where
@@ -20,6 +18,40 @@ pub record AnswerOctets (offset count next sum : ℕ) (f : Framed) : Type 0 wher
   pub follows : next ≡ offset + 2 * length os + 1
   pub summed : sum ≡ total os
 
-pub answer-octets : (offset n m t : ℕ) (f : Framed) → lineAnswer offset f ≡ Octets n m t → AnswerOctets offset n m t f
-answer-octets offset n m t (refused j) e = let z : _≡_ {A = ℕ} 0 1 = cc in absurd (omega arith)
-answer-octets offset n m t (octets os) e = record { os = os; framed = refl; counted = cc; follows = cc; summed = cc }
+module _ (offset : ℕ) (t : List ℕ) where
+  values-refused : (k : ℕ) → lineValues (Refused k) ≡ framedValues offset (frame t) → frame t ≡ refused k
+  values-refused k e = go (frame t) e
+    where
+      go : (f : Framed) → lineValues (Refused k) ≡ framedValues offset f → f ≡ refused k
+      go (refused j) e = ap (λ (v : LineValues). refused (v .number)) (sym e)
+      go (octets os) e = let z = ap (λ (v : LineValues). v .next) e in absurd (omega arith)
+
+  values-octets : (n m s : ℕ) → lineValues (Octets n m s) ≡ framedValues offset (frame t) → AnswerOctets offset n m s (frame t)
+  values-octets n m s e = go (frame t) refl e
+    where
+      go : (f : Framed) → frame t ≡ f → lineValues (Octets n m s) ≡ framedValues offset f → AnswerOctets offset n m s f
+      go (refused j) q e = let z = ap (λ (v : LineValues). v .number) e in let l = refused-is t q in absurd (omega arith)
+      go (octets os) q e =
+          record {
+            os = os;
+            framed = refl;
+            counted = ap (λ (v : LineValues). v .count) e;
+            follows = ap (λ (v : LineValues). v .next) e;
+            summed = ap (λ (v : LineValues). v .total) e;
+          }
+
+  module _ {r : Line} (e : lineValues r ≡ framedValues offset (frame t)) where
+    pub answer-refused : {k : ℕ} → r ≡ Refused k → frame t ≡ refused k
+    answer-refused {k} a = values-refused k (ap lineValues (sym a) ∙ e)
+
+    pub answer-octets : {n m s : ℕ} → r ≡ Octets n m s → AnswerOctets offset n m s (frame t)
+    answer-octets {n} {m} {s} a = values-octets n m s (ap lineValues (sym a) ∙ e)
+
+  -- the number and values say which answer it is
+  pub same-line : (a b : Line) → lineValues a ≡ framedValues offset (frame t) → lineValues b ≡ framedValues offset (frame t) → a ≡ b
+  same-line (Refused j) (Refused k) e f = ap (λ (v : LineValues). Refused (v .number)) (e ∙ sym f)
+  same-line (Refused j) (Octets n m s) e f =
+      let q = values-refused j e in let w = values-octets n m s f .framed in let z : _≡_ {A = ℕ} 0 1 = cc in absurd (omega arith)
+  same-line (Octets n m s) (Refused k) e f =
+      let q = values-refused k f in let w = values-octets n m s e .framed in let z : _≡_ {A = ℕ} 0 1 = cc in absurd (omega arith)
+  same-line (Octets n m s) (Octets x y z) e f = ap (λ (v : LineValues). Octets (v .count) (v .next) (v .total)) (e ∙ sym f)

@@ -10,22 +10,37 @@ use Rattle.octets.specs.Line.{Framed, refused, octets, total, isDigit, o
 use Rattle.octets.specs.declared.Line.{Line}
 use Rattle.octets.specs.declared.Line.the-variants.{Refused, Octets}
 
--- of the line at an offset: the number that refuses it; or how many octets it has, the offset of the next line, and the octets' plain sum
-abbrev pub lineAnswer : ℕ → Framed → Line
-lineAnswer offset (refused k) = Refused k
-lineAnswer offset (octets os) = Octets (length os) (offset + 2 * length os + 1) (total os)
+-- "a definition gives this paper's number and values for each of the enum's cases": of an answer of `read_line`
+pub record LineValues : Type 0 where
+  -- 1, 2 or 3 of a refused line, 0 of an accepted one
+  pub number : ℕ
+  -- how many octets it has, the offset at which the next line starts, and the plain sum of the octets; 0 of a refused line
+  pub count : ℕ
+  pub next : ℕ
+  pub total : ℕ
 
--- document 01's number of that answer: 0 for an accepted line
-abbrev pub numberOf : Line → ℕ
-numberOf (Refused k) = k
-numberOf (Octets count next sum) = 0
+abbrev pub refusedWith : ℕ → LineValues
+refusedWith k = record { number = k; count = 0; next = 0; total = 0 }
+
+abbrev pub acceptedWith : ℕ → ℕ → ℕ → LineValues
+acceptedWith count next total = record { number = 0; count = count; next = next; total = total }
+
+-- of each case
+abbrev pub lineValues : Line → LineValues
+lineValues (Refused k) = refusedWith k
+lineValues (Octets count next total) = acceptedWith count next total
+
+-- of the line at an offset, as it is framed
+abbrev pub framedValues : ℕ → Framed → LineValues
+framedValues offset (refused k) = refusedWith k
+framedValues offset (octets os) = acceptedWith (length os) (offset + 2 * length os + 1) (total os)
 
 -- the same at the line's end, from the count of octets, the first octet, the sum of all modulo 256, the next offset, the plain sum
-unfoldable pub answerAtEnd : ℕ → ℕ → ℕ → ℕ → ℕ → Line
-answerAtEnd count first sum next plain =
+unfoldable pub valuesAtEnd : ℕ → ℕ → ℕ → ℕ → ℕ → LineValues
+valuesAtEnd count first sum next plain =
     cond (eqb count 0)
-    (Refused wrongCharacters)
-    (cond (eqb (first + 3) count) (cond (eqb sum 0) (Octets count next plain) (Refused wrongSum)) (Refused wrongLength))
+    (refusedWith wrongCharacters)
+    (cond (eqb (first + 3) count) (cond (eqb sum 0) (acceptedWith count next plain) (refusedWith wrongSum)) (refusedWith wrongLength))
 
 -- the octet of two bytes; 0 where one of them is no digit
 unfoldable pub octetOf : ℕ → ℕ → ℕ

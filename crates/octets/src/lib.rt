@@ -5,7 +5,8 @@ ghost use Prim.Native.Nat.{_+_, _<_};
 ghost use lib.ListN.{length, drop};
 ghost use Rattle.octets.specs.Line.{digitValue, frame};
 ghost use Rattle.octets.specs.Line as line;
-ghost use Rattle.octets.specs.Answers.{lineAnswer, answerAtEnd, octetOf, octetAt, placed, writtenLength, writtenBuffer};
+ghost use Rattle.octets.specs.Answers.{lineValues, framedValues, valuesAtEnd};
+ghost use Rattle.octets.specs.Answers.{octetOf, octetAt, placed, writtenLength, writtenBuffer};
 use common::WRONG_CHARACTERS;
 use common::WRONG_LENGTH;
 use common::WRONG_SUM;
@@ -43,7 +44,7 @@ pub fn digit_value(c: u8) -> u8
 
 // What a line is at its end, by its count of octets, the first octet, and the sum of all, modulo 256 and plain.
 fn answer_at_end(count: usize, first: u8, sum: u8, next: usize, total: usize) -> Line
-    ensures { λ r. ⌜ r ≡ answerAtEnd count first sum next total ⌝ }
+    ensures { λ r. ⌜ lineValues r ≡ valuesAtEnd count first sum next total ⌝ }
 {
     if count == 0 {
         return Line::Refused(WRONG_CHARACTERS);
@@ -63,7 +64,7 @@ fn answer_at_end(count: usize, first: u8, sum: u8, next: usize, total: usize) ->
 
 // Reads the line that starts at an offset of the text. The octets' running sum wraps, and is compared with zero at the line's end.
 pub fn read_line(text: &[u8], offset: usize) -> Line
-    ensures { λ r. ⌜ r ≡ lineAnswer offset (frame (drop offset (now (text .entry)))) ⌝ }
+    ensures { λ r. ⌜ lineValues r ≡ framedValues offset (frame (drop offset (now (text .entry)))) ⌝ }
 {
     let mut i = offset;
     let mut n: usize = 0;

@@ -2,10 +2,12 @@ pub mod Table
 pub mod LinesBefore
 pub mod Height
 pub mod Rows
+pub mod Rising
 pub mod Loadable
 pub mod Edits
 pub mod EdgeRows
 pub mod RowLaws
+pub mod RisingLaws
 pub mod LoadableLaws
 pub mod RoomLaws
 pub mod TableLaws

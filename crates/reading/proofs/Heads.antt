@@ -20,12 +20,11 @@ use Rattle.rows.specs.Checks.{causes}
 use Rattle.policy.specs.Rows.{inRange, rowCauses, rowRefusal}
 use Rattle.policy.specs.TableLaws.{sized-blank, sized-appended, count-other}
 use Rattle.policy.specs.GrowthLaws.{blank-empty, tables-first}
-use Rattle.lines.specs.declared.Next.the-variants.{Other, Refused}
 use Rattle.lines.specs.declared.Cursor.{Cursor}
 use Rattle.reading.specs.declared.Stage.{Stage}
 use Rattle.reading.specs.Body.{numbers}
 use Rattle.reading.specs.Loading.{misplaced, lineRefusal, afterLine, notLoaded, read, load}
-use Rattle.lines.specs.NextLine.{nextOf}
+use Rattle.lines.specs.NextLine.{noLine, refusedLine, nextOf}
 use Rattle.lines.specs.Judging.{movedPast}
 use Rattle.lines.proofs.FoundLine.{FoundLine, sum-most, refused-line, other-line}
 use Rattle.reading.specs.Stages.{reading, refusedAt, Starts}
@@ -46,12 +45,12 @@ module _ (text : List ℕ) where
       → Starts text (refusedAt top n r)
   starts-not n r h q = record { same = from-refused text top n r h ∙ sym (from-top text ∙ q); ready = λ z. absurd (h z) }
 
-  pub head-unread : (n : ℕ) (r : Record) → nextOf text 0 0x01 5 ≡ Refused n → Starts text (refusedAt top n r)
+  pub head-unread : (n : ℕ) (r : Record) → nextOf text 0 0x01 5 ≡ refusedLine n → Starts text (refusedAt top n r)
   head-unread n r e =
       let (h, q) = refused-reading (reading (stage top blank)) text 0 head 5 n refl (refused-line text 0 0x01 5 e) in
       starts-not n r h q
 
-  pub head-other : (r : Record) → 0 < length text → nextOf text 0 0x01 5 ≡ Other → Starts text (refusedAt top wrongKind r)
+  pub head-other : (r : Record) → 0 < length text → nextOf text 0 0x01 5 ≡ noLine → Starts text (refusedAt top wrongKind r)
   head-other r l e =
       let (os, f, h) = other-line text 0 0x01 5 l e in
       let t = reading (stage top blank) in

@@ -20,8 +20,7 @@ use Rattle.policy.specs.RoomLaws.{room-left}
 use Rattle.policy.specs.GrowthLaws.{tables-more}
 use Rattle.policy.specs.TableLaws.{sized-appended, count-other, count-same, kind-of-code}
 use Rattle.lines.specs.declared.Cursor.{Cursor}
-use Rattle.lines.specs.declared.Next.the-variants.{Other, Refused}
-use Rattle.lines.specs.NextLine.{nextOf}
+use Rattle.lines.specs.NextLine.{noLine, refusedLine, nextOf}
 use Rattle.lines.specs.Judging.{CursorBound, movedPast}
 use Rattle.lines.proofs.FoundLine.{FoundLine, sum-most, other-kind, refused-line}
 use Rattle.reading.specs.declared.Stage.{Stage}
@@ -89,14 +88,14 @@ module _ (text : List ℕ) (k : Kind) (p : HasTable k) (start : Stage) (c : Curs
   on = sym (g .same) ∙ from-on text (stage c r) (g .fresh)
 
   -- the line is refused as one of its kind
-  pub partway-unread : (size n : ℕ) → size ≡ total (widths k) + 3 → nextOf text (c .offset) (code k) size ≡ Refused n
+  pub partway-unread : (size n : ℕ) → size ≡ total (widths k) + 3 → nextOf text (c .offset) (code k) size ≡ refusedLine n
       → Reads text k start (refusedAt c n r)
   partway-unread size n s e =
       let (h, q) = refused-reading (reading (stage c r)) text (c .offset) k size n s (refused-line text (c .offset) (code k) size e) in
       record { same = from-refused text c n r h ∙ sym (on ∙ q); ready = λ z. absurd (h z) }
 
   -- no line of kind k, or the text's end: the reader is done
-  pub partway-done : (size : ℕ) → nextOf text (c .offset) (code k) size ≡ Other → Reads text k start (stage c r)
+  pub partway-done : (size : ℕ) → nextOf text (c .offset) (code k) size ≡ noLine → Reads text k start (stage c r)
   partway-done size e =
       let b = g .begun in
       let up = code-rises k (p .high) in

@@ -25,10 +25,10 @@ use Rattle.rows.specs.Op.{opOf, heightOf}
 use Rattle.lines.specs.declared.Row.{Row}
 use Rattle.lines.specs.declared.Bounds.{Bounds}
 use Rattle.lines.specs.declared.Cursor.{Cursor}
-use Rattle.lines.specs.declared.Next.the-variants.{Other, Body}
-use Rattle.lines.specs.NextLine.{nextOf}
-use Rattle.lines.specs.Judging.{rowAt, fieldsOf, heightBy, refusalBy, movedPast, CursorBound, HeightsLow, Refuses, Takes}
-use Rattle.lines.specs.Judging.Refuses.{as-line, by-numbers}
+use Rattle.lines.specs.NextLine.{noLine, bodyLine, nextOf}
+use Rattle.lines.specs.Judging.{rowAt, fieldsOf, heightBy, refusalBy, movedPast, CursorBound, HeightsLow}
+use Rattle.lines.proofs.JudgedLine.{Refuses, Takes}
+use Rattle.lines.proofs.JudgedLine.Refuses.{as-line, by-numbers}
 use Rattle.lines.proofs.FoundLine.{FoundLine, found-line}
 use Rattle.reading.specs.declared.Stage.{Stage}
 use Rattle.reading.specs.Body.{widths, numbers}
@@ -124,12 +124,12 @@ module _ {text : List ℕ} {kind size : ℕ} {start : Stage} {c : Cursor} {r : R
   taken-heights q = heights-low (g .high q) (table-few r formula (g .partway .begun .loads formula))
 
   -- no line of the kind is left
-  pub taken-all : nextOf text (c .offset) kind size ≡ Other → Reads text (kindOf kind) start (stage c r)
+  pub taken-all : nextOf text (c .offset) kind size ≡ noLine → Reads text (kindOf kind) start (stage c r)
   taken-all e = partway-done text (kindOf kind) (has-table w) start c r (g .partway) size (as-kind ∙ e)
 
   -- ---- a line of the kind
 
-  module _ {next sum : ℕ} (e : nextOf text (c .offset) kind size ≡ Body next sum) where
+  module _ {next sum : ℕ} (e : nextOf text (c .offset) kind size ≡ bodyLine next sum) where
     found : FoundLine text (c .offset) (code (kindOf kind)) size next sum
     found = found-line text (c .offset) (code (kindOf kind)) size (as-kind ∙ e)
 

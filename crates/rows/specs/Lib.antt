@@ -1,3 +1,5 @@
 pub mod Op
 pub mod Checks
+pub mod Rising
 pub mod OpLaws
+pub mod RisingLaws

@@ -15,8 +15,7 @@ use Rattle.common.specs.Sets.{In, Apart, Within}
 use Rattle.common.specs.SetLaws.{le-or-lt, in-or-out, none-in-zero, some-in, and-in-l, within-and, or-in}
 use Rattle.common.specs.SetLaws.{in-lt, in-ge, in-pow, pow-in, in-sum-l, in-sum-r, sum-in}
 use Rattle.search.specs.declared.Masks.{Masks}
-use Rattle.search.specs.declared.Found.the-variants.{Nothing}
-use Rattle.search.specs.Search.{Met, Least}
+use Rattle.search.specs.Search.{Met, NoCandidate}
 use Rattle.search.specs.Steps.{MetBy, ConflictFree, NoneHolds, Gives, Asks, NoneFrom}
 use Rattle.search.specs.Steps.{NeededBy, WithinFrom, Joins, State, NoCompletion}
 use Rattle.search.proofs.Steps.{«with», top-small, ones-zero}
@@ -198,7 +197,7 @@ module _ {r : Masks} {n c b : ℕ} (s : State r n c b) where
   }
 
 -- every candidate holds the empty set
-pub no-candidate : {r : Masks} → r .count ≤ mostPrincipals → NoneHolds r mostPrincipals 0 0 → Least r Nothing
+pub no-candidate : {r : Masks} → r .count ≤ mostPrincipals → NoneHolds r mostPrincipals 0 0 → NoCandidate r
 no-candidate {r} c f t d = f t (record {
   candidate = d;
   few = omega (arith, ones-le (r .count) t (d .inside));

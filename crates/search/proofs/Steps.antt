@@ -11,9 +11,9 @@ use lib.Count.{ones, onesIn, ones-step, ones-cat, ones-le}
 use Rattle.search.specs.declared.Masks.{Masks}
 use Rattle.common.specs.Limits.{mostPrincipals}
 use Rattle.common.specs.Sets.{Apart}
-use Rattle.search.specs.Search.{Candidate, Least}
-use Rattle.search.specs.declared.Found.{Found}
-use Rattle.search.specs.declared.Found.the-variants.{Set, Nothing}
+use Rattle.search.specs.Search.{Candidate, LeastCandidate, NoCandidate}
+use Rattle.search.specs.Answers.{FoundValues}
+use Rattle.search.specs.Answers.GrantedOrDenied.{grants, denies}
 use Rattle.search.specs.SearchLaws.{before-fewer, before-size}
 use Rattle.search.specs.Steps.{State, LeastCompletion, NoCompletion, Completed}
 use Rattle.common.specs.SetLaws.{le-or-lt, none-in-zero, or-in, pow-in, in-lt, in-ge, sum-in}
@@ -104,9 +104,9 @@ module _ {r : Masks} {n m c : ℕ} (e : n ≡ suc m) where
         (split e l);
   }
 
-  pub step : {k : ℕ} (f : Found) → 0 < k → NoCompletion r m k c → Completed r m (k - 1) (c + 2 ^ m) f → Completed r n k c f
-  step (Set s) p a b = include p a b
-  step Nothing p a b = neither p a b
+  pub step : {k : ℕ} {a : FoundValues} → 0 < k → NoCompletion r m k c → Completed r m (k - 1) (c + 2 ^ m) a → Completed r n k c a
+  step p f (grants s q b) = grants s q (include p f b)
+  step p f (denies q b) = denies q (neither p f b)
 
   halved : {b : ℕ} (s : State r n c b) → c ≡ s .head * 2 * 2 ^ m
   halved s = s .above ∙ ap (λ (x : ℕ). s .head * x) (double e) ∙ sym (mul-assoc (s .head) 2 (2 ^ m))
@@ -157,10 +157,10 @@ start r h = record {
 }
 
 module _ {r : Masks} {k : ℕ} (low : (t : ℕ) → Candidate r t → k ≤ ones t) where
-  pub least-found : {s : ℕ} → LeastCompletion r (r .count) k 0 s → Least r (Set s)
-  least-found {s} f = (
-    f .candidate,
-    λ t d.
+  pub least-found : {s : ℕ} → LeastCompletion r (r .count) k 0 s → LeastCandidate r s
+  least-found {s} f = record {
+    candidate = f .candidate;
+    first = λ t d.
         let e : s ≡ f .more = omega (arith, f .is) in
         let o : ones s ≡ k = ap ones e ∙ f .size in
         ⊎-elim
@@ -168,8 +168,8 @@ module _ {r : Masks} {k : ℕ} (low : (t : ℕ) → Candidate r t → k ≤ ones
         (omega (arith, q, o))
         (omega (arith, e, f .smallest t (d .inside) (sym q) (subst (λ (z : ℕ). Candidate r z) (omega arith) d))))
         (λ l. before-fewer (omega (arith, o, l)))
-        (eq-or-lt-of-le (low t d)),
-  )
+        (eq-or-lt-of-le (low t d));
+  }
 
   pub higher : NoCompletion r (r .count) k 0 → (t : ℕ) → Candidate r t → k + 1 ≤ ones t
   higher f t d = ⊎-elim
@@ -177,5 +177,5 @@ module _ {r : Masks} {k : ℕ} (low : (t : ℕ) → Candidate r t → k ≤ ones
       (λ l. omega arith)
       (eq-or-lt-of-le (low t d))
 
-  pub past : r .count < k → Least r Nothing
+  pub past : r .count < k → NoCandidate r
   past h t d = omega (arith, low t d, ones-le (r .count) t (d .inside))

@@ -1,3 +1,5 @@
+pub mod Answers
 pub mod Search
+pub mod AnswerLaws
 pub mod SearchLaws
 pub mod Steps

@@ -8,8 +8,7 @@ use Rattle.common.specs.Lists.{at}
 use Rattle.common.specs.Sets.{In, Apart, Within}
 use Rattle.common.specs.Order.{NotAfter}
 use Rattle.search.specs.declared.Masks.{Masks}
-use Rattle.search.specs.declared.Found.{Found}
-use Rattle.search.specs.declared.Found.the-variants.{Set, Nothing}
+use Rattle.search.specs.Answers.{FoundValues, GrantedOrDenied}
 
 -- p is consistent in the set s: p excludes no member, and all that p needs are members
 pub record ConsistentIn (r : Masks) (s p : ℕ) : Type 0 where
@@ -46,7 +45,14 @@ rank s = ones s ∷ s ∷ []
 pub record Before (s t : ℕ) : Type 0 where
   pub ranked : NotAfter (rank s) (rank t)
 
--- the least candidate; `Nothing` where there is none
-abbrev pub Least : Masks → Found → Type 0
-Least r (Set s) = Candidate r s × ((t : ℕ) → Candidate r t → Before s t)
-Least r Nothing = (t : ℕ) → Candidate r t → ⊥
+-- s is the least candidate; there is none
+pub record LeastCandidate (r : Masks) (s : ℕ) : Type 0 where
+  pub candidate : Candidate r s
+  pub first : (t : ℕ) → Candidate r t → Before s t
+
+abbrev pub NoCandidate : Masks → Type 0
+NoCandidate r = (t : ℕ) → Candidate r t → ⊥
+
+-- the number and set of an answer are those of the least candidate, or of none
+abbrev pub Least : Masks → FoundValues → Type 0
+Least r a = GrantedOrDenied (LeastCandidate r) (NoCandidate r) a

@@ -8,8 +8,7 @@ use Rattle.common.specs.Lists.{at}
 use Rattle.common.specs.Limits.{mostPrincipals}
 use Rattle.common.specs.Sets.{In, Apart, Within}
 use Rattle.search.specs.declared.Masks.{Masks}
-use Rattle.search.specs.declared.Found.{Found}
-use Rattle.search.specs.declared.Found.the-variants.{Set, Nothing}
+use Rattle.search.specs.Answers.{FoundValues, GrantedOrDenied}
 use Rattle.search.specs.Search.{Candidate}
 
 -- the test b says whether P
@@ -97,6 +96,5 @@ pub record NoCompletion (r : Masks) (n k c : ℕ) : Type 0 where
   pub none : (y : ℕ) → y < 2 ^ n → ones y ≡ k → Candidate r (c + y) → ⊥
 
 -- the answer of the search, one or the other
-abbrev pub Completed : Masks → ℕ → ℕ → ℕ → Found → Type 0
-Completed r n k c (Set s) = LeastCompletion r n k c s
-Completed r n k c Nothing = NoCompletion r n k c
+abbrev pub Completed : Masks → ℕ → ℕ → ℕ → FoundValues → Type 0
+Completed r n k c a = GrantedOrDenied (LeastCompletion r n k c) (NoCompletion r n k c) a

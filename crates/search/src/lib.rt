@@ -12,6 +12,7 @@ ghost use lib.Count.{ones};
 ghost use Rattle.common.specs.Limits.{mostPrincipals, mostRelated};
 ghost use Rattle.common.specs.Lists.{at};
 ghost use Rattle.common.specs.Sets.{In, Apart, Within};
+ghost use Rattle.search.specs.Answers.{foundValues};
 ghost use Rattle.search.specs.Search.{ConsistentIn, Consistent, Candidate, Least};
 ghost use Rattle.search.specs.Steps.{Decides, MetBy, Gathers, ConflictFree, NoneHolds, Asks, NoneFrom, NeededBy};
 ghost use Rattle.search.specs.Steps.{WithinFrom, Joins, State, Completed};
@@ -32,6 +33,7 @@ pub struct Masks {
     pub wanted: u64,
 }
 
+// The least set of those looked for; nothing where there is none.
 pub enum Found {
     Set(u32),
     Nothing,
@@ -390,7 +392,7 @@ fn joins(masks: Masks, c: u32, m: usize) -> bool
 fn search(masks: Masks, n: usize, k: usize, chosen: u32, needed: u32, barred: u32) -> Found
     requires { ⌜ State masks n chosen barred ⌝ }
     requires { ⌜ NeededBy masks chosen needed ⌝ }
-    ensures { λ r. ⌜ Completed masks n k chosen r ⌝ }
+    ensures { λ r. ⌜ Completed masks n k chosen (foundValues r) ⌝ }
 {
     if k == 0 {
         if candidate(masks, chosen) {
@@ -424,7 +426,7 @@ fn search(masks: Masks, n: usize, k: usize, chosen: u32, needed: u32, barred: u3
 // The least candidate.
 pub fn least(masks: Masks) -> Found
     requires { ⌜ masks .count ≤ mostPrincipals ⌝ }
-    ensures { λ r. ⌜ Least masks r ⌝ }
+    ensures { λ r. ⌜ Least masks (foundValues r) ⌝ }
 {
     let count = masks.count;
     if !feasible(masks, MOST_PRINCIPALS, 0, 0) {

@@ -2,16 +2,16 @@
 use Prim.Native.Nat.{ℕ}
 use mathlib.Core.Path.{_≡_, sym, _∙_, ap}
 use mathlib.Core.Bool.{true}
+use mathlib.Core.Option.{Option}
 use native.Mathlib.Omega.{arith}
 use borrow.Author.Needs.{needs}
 use Rattle.common.specs.Sets.{member}
 use Rattle.policy.specs.Table.{Kind, user, principal}
 use Rattle.policy.specs.Loadable.{tableLoads}
 use Rattle.policy.specs.LoadableLaws.{table-few, loadable-table}
-use Rattle.search.specs.declared.Found.{Found}
 use Rattle.justification.specs.Justification.{least}
 use Rattle.justification.specs.Predicates.{questionRefusal}
-use Rattle.justification.specs.Masked.{found}
+use Rattle.justification.specs.MaskLaws.{least-set, least-none}
 use Rattle.justification.proofs.Asking.{Asked, asked}
 use Rattle.memo.specs.Walk.{outcome}
 use Rattle.access.specs.Access.{answered, eager}
@@ -93,29 +93,25 @@ module _ (l : tie.After-least) where
   abbrev made : tie.After-memo-for
   made = memo-made (roles-found marked)
 
-  whole : answered (start made .args .t1) (made .memo-for .result) (outcome (evaluated .evaluated-all .result) (found (l .least .result)))
+  whole : {o : Option ℕ} → o ≡ least (start made .args .t1) (l .before .index .result) (λ p. member p (marked .valued .result))
+      → answered (start made .args .t1) (made .memo-for .result) (outcome (evaluated .evaluated-all .result) o)
       ≡ eager (start made .args .t1) (start made .args .question)
-  whole =
+  whole is =
       let o = roles-found marked in
       let r = start made .args .t1 in
       eager-answer r (start made .args .question) (tables made) (no-refusal made) (o .roles-of .result) (o .roles-of .ensures)
       (made .memo-for .ensures .0) (evaluated .evaluated-all .ensures) (marked .valued .ensures)
-      (l .least .ensures ∙ ap (λ (k : ℕ). least r k (λ p. member p (marked .valued .result))) (l .before .index .ensures))
-
-  -- the same with what the search found, case by case
-  case : {x : Found} → l .least .result ≡ x
-      → answered (start made .args .t1) (made .memo-for .result) (outcome (evaluated .evaluated-all .result) (found x))
-      ≡ eager (start made .args .t1) (start made .args .question)
-  case e =
-      ap (λ (x : Found). answered (start made .args .t1) (made .memo-for .result) (outcome (evaluated .evaluated-all .result) (found x)))
-      (sym e)
-      ∙ whole
+      (is ∙ ap (λ (k : ℕ). least r k (λ p. member p (marked .valued .result))) (l .before .index .ensures))
 
 returns-2 : tie.Need-returns-2
-returns-2 c = c .granted .ensures ∙ case (c .before .before .before .before) (c .before .before .set .given .1)
+returns-2 c =
+    let l = c .before .before .before .before in
+    c .granted .ensures ∙ whole l (least-set _ (l .least .ensures) (c .before .before .set .given .1))
 
 returns-3 : tie.Need-returns-3
-returns-3 c = c .denied .ensures ∙ case (c .before .before .before) (c .before .enum-told .given .1)
+returns-3 c =
+    let l = c .before .before .before in
+    c .denied .ensures ∙ whole l (least-none _ (l .least .ensures) (c .before .enum-told .given .1))
 
 pub ask-eager-given-spec : {M : Type 1} → statement M
 ask-eager-given-spec =

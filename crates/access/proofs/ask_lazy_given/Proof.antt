@@ -1,6 +1,6 @@
 -- `ask_lazy_given` meets its contract: the searches, round by round, are the walk over all candidates.
 use Prim.Native.Nat.{ℕ, _-_, _+_, _≤_}
-use mathlib.Core.Path.{_≡_, sym, _∙_, ap}
+use mathlib.Core.Path.{_≡_, refl, sym, _∙_, ap}
 use mathlib.Core.Bool.{Bool, true}
 use native.Mathlib.Omega.{arith}
 use borrow.Author.Needs.{needs}
@@ -8,9 +8,11 @@ use Rattle.common.specs.Sets.{member}
 use Rattle.policy.specs.Table.{Kind, user, principal}
 use Rattle.policy.specs.Loadable.{tableLoads}
 use Rattle.policy.specs.LoadableLaws.{table-few, loadable-table}
+use Rattle.search.specs.Answers.{foundValues}
 use Rattle.justification.specs.Justification.{least}
 use Rattle.justification.specs.Predicates.{questionRefusal}
-use Rattle.justification.specs.Masked.{found}
+use Rattle.justification.specs.Masked.{leastValues}
+use Rattle.justification.specs.MaskLaws.{least-set, least-none}
 use Rattle.justification.proofs.Asking.{Asked, asked}
 use Rattle.memo.specs.Walk.{searching}
 use Rattle.formula.specs.Evaluation.{trueAtObject}
@@ -100,11 +102,12 @@ module _ (l : tie.After-least-among Inv-loop μ-loop) where
   abbrev at-loop : tie.At-loop Inv-loop μ-loop
   at-loop = in-loop .before
 
-  next-is : found (l .least-among .result)
-      ≡ least (entry at-loop .args .t1) (entry at-loop .args .question .method) (λ p. member p (l .before .not-known-false .result))
+  next-is : foundValues (l .least-among .result)
+      ≡ leastValues
+      (least (entry at-loop .args .t1) (entry at-loop .args .question .method) (λ p. member p (l .before .not-known-false .result)))
   next-is =
       l .least-among .ensures (entry at-loop .args .t1) (at-loop .before .before .index .result) 0 (at-loop .before .masks-of .ensures)
-      ∙ ap (λ (k : ℕ). least (entry at-loop .args .t1) k (λ p. member p (l .before .not-known-false .result)))
+      ∙ ap (λ (k : ℕ). leastValues (least (entry at-loop .args .t1) k (λ p. member p (l .before .not-known-false .result))))
       (at-loop .before .before .index .ensures)
 
 not-known-false-requires : tie.Need-not-known-false-requires Inv-loop μ-loop
@@ -127,8 +130,8 @@ returns-2 c =
     let a = at-loop l in
     c .denied .ensures
     ∙ ap (answered _ _)
-    (round-denied _ _ _ _ (in-loop l .loop-test .taken) (a .loop .inv .0) (l .before .not-known-false .ensures) (next-is l)
-    (ap found (c .before .enum-told .given .1)))
+    (round-denied _ _ _ _ (in-loop l .loop-test .taken) (a .loop .inv .0) (l .before .not-known-false .ensures)
+    (least-none _ (next-is l) (c .before .enum-told .given .1)) refl)
     ∙ whole a
 
 enum-known-c : tie.Need-enum-known-c Inv-loop μ-loop
@@ -147,8 +150,8 @@ returns-3 c =
     let a = at-loop l in
     c .granted .ensures
     ∙ ap (answered _ _)
-    (round-granted _ _ _ _ (in-loop l .loop-test .taken) (a .loop .inv .0) (l .before .not-known-false .ensures) (next-is l)
-    (ap found (w .before .before .c .given .1)) (w .weigh .result) (w .weigh .ensures) (c .before .if2 .taken))
+    (round-granted _ _ _ _ (in-loop l .loop-test .taken) (a .loop .inv .0) (l .before .not-known-false .ensures)
+    (least-set _ (next-is l) (w .before .before .c .given .1)) refl (w .weigh .result) (w .weigh .ensures) (c .before .if2 .taken))
     ∙ whole a
 
 add-rounds : tie.Need-add-rounds Inv-loop μ-loop
@@ -167,8 +170,8 @@ loop-again c =
     let w = c .before .before in
     let l = w .before .before .before .before in
     let a = at-loop l in (
-      round-ended _ _ _ _ (in-loop l .loop-test .taken) (a .loop .inv .0) (l .before .not-known-false .ensures) (next-is l)
-          (ap found (w .before .before .c .given .1)) (w .weigh .result) (w .weigh .ensures) (c .before .if2 .left),
+      round-ended _ _ _ _ (in-loop l .loop-test .taken) (a .loop .inv .0) (l .before .not-known-false .ensures)
+          (least-set _ (next-is l) (w .before .before .c .given .1)) refl (w .weigh .result) (w .weigh .ensures) (c .before .if2 .left),
       omega (arith, in-loop l .loop-test .taken),
     )
 

@@ -21,7 +21,7 @@ returns c =
       every = k .every;
       wanted = k .wanted;
       bounded = k .bounded;
-    }) (c .least .result) (c .least .ensures)
+    }) (c .least .ensures)
 
 pub least-among-spec : {M : Type 1} → statement M
 least-among-spec = tie.close (tie.spec least-requires returns)

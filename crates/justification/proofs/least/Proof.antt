@@ -15,7 +15,7 @@ returns : tie.Need-returns
 returns c =
     let s = c .before .before in
     least-masked (s .args .rules) (s .args .method) (s .args .allowed) (c .before .«masks-of» .result) (c .before .«masks-of» .ensures)
-    (c .least .result) (c .least .ensures)
+    (c .least .ensures)
 
 pub least-spec : {M : Type 1} → statement M
 least-spec = tie.close (tie.spec masks-of-requires least-requires returns)

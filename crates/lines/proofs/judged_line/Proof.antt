@@ -1,10 +1,10 @@
 -- `judged_line` meets its contract.
-use mathlib.Core.Path.{_≡_, sym, _∙_}
+use mathlib.Core.Path.{_≡_, sym, _∙_, ap}
 use native.Mathlib.Omega.{arith}
 use borrow.Author.Needs.{needs}
-use Rattle.lines.specs.declared.Next.the-variants.{Body}
-use Rattle.lines.specs.NextLine.{nextOf}
-use Rattle.lines.specs.Judging.Refuses.{as-line, by-numbers}
+use Rattle.lines.specs.NextLine.{nextValues, bodyLine, nextOf}
+use Rattle.lines.proofs.JudgedLine.{says-other, says-refused, says-taken}
+use Rattle.lines.proofs.JudgedLine.Refuses.{as-line, by-numbers}
 use Rattle.lines.proofs.FoundLine.{found-line, sum-most}
 use Rattle.lines.proofs.judged_line.Statement.{statement}
 use Rattle.lines.proofs.judged_line.Tie as tie
@@ -21,8 +21,8 @@ ours q = q .before .before .before .before
 
 found : (n : tie.After-next) → let x =
     entry (line n) .args in nextOf (x .text .now) (x .cursor .offset) (x .kind) (x .size)
-    ≡ Body (n .next .given .0 .0) (n .next .given .0 .1 .0)
-found n = sym (line n .next-line .ensures) ∙ n .next .given .1
+    ≡ bodyLine (n .next .given .0 .0) (n .next .given .0 .1 .0)
+found n = sym (line n .next-line .ensures) ∙ ap nextValues (n .next .given .1)
 
 next-line-requires : tie.Need-next-line-requires
 next-line-requires c κs = search needs
@@ -48,8 +48,9 @@ row-refusal-requires c κs = search needs
 returns : tie.Need-returns
 returns c =
     let q = c .before in
-    by-numbers (found (ours q)) (q .before .before .row-at .ensures) (q .before .height-of .ensures) (q .row-refusal .ensures)
-    (c .if1 .taken)
+    says-refused _ _ _ _ _ _
+    (by-numbers (found (ours q)) (q .before .before .row-at .ensures) (q .before .height-of .ensures) (q .row-refusal .ensures)
+    (c .if1 .taken))
 
 after-row-requires : tie.Need-after-row-requires
 after-row-requires c κs = search needs
@@ -61,16 +62,17 @@ past-requires c κs =
     (entry (line n) .pre .1, omega (arith, sum-most _ (f .framed), f .summed))
 
 returns-2 : tie.Need-returns-2
-returns-2 c = sym (c .before .before .next-line .ensures) ∙ c .enum-told .given .1
+returns-2 c = says-other _ _ _ _ _ _ (sym (c .before .before .next-line .ensures) ∙ ap nextValues (c .enum-told .given .1))
 
 returns-3 : tie.Need-returns-3
-returns-3 c = as-line (sym (c .before .before .before .next-line .ensures) ∙ c .before .number .given .1)
+returns-3 c =
+    says-refused _ _ _ _ _ _ (as-line (sym (c .before .before .before .next-line .ensures) ∙ ap nextValues (c .before .number .given .1)))
 
 returns-4 : tie.Need-returns-4
 returns-4 c =
     let e = c .before .before in
     let q = e .before in
-    record {
+    says-taken _ _ _ _ _ _ (record {
       following = ours q .next .given .0 .0;
       sum = ours q .next .given .0 .1 .0;
       found = found (ours q);
@@ -79,7 +81,7 @@ returns-4 c =
       passes = sym (q .row-refusal .ensures) ∙ e .if1 .left;
       least = c .before .after-row .ensures;
       moved = c .past .ensures;
-    }
+    })
 
 pub judged-line-spec : {M : Type 1} → statement M
 judged-line-spec =

@@ -1,5 +1,4 @@
 -- `next_line` meets its contract: each way out is a case of `nextOf`.
-use mathlib.Core.Path.{sym, _∙_}
 use lib.ListN.{drop}
 use Rattle.octets.specs.Line.{frame}
 use Rattle.octets.specs.AnswerLaws.{AnswerOctets, answer-refused, answer-octets}
@@ -27,7 +26,7 @@ octet-at-requires c κs = search needs
 line : (c : tie.After-count) → let f =
     c .before .before in let g = c .count .given .0 in AnswerOctets (f .before .before .before .args .offset) (g .0) (g .1 .0) (g .1 .1 .0)
     (frame (drop (f .before .before .before .args .offset) (f .before .before .before .args .text .now)))
-line c = let f = c .before .before in answer-octets _ _ _ _ _ (sym (f .read-line .ensures) ∙ c .count .given .1)
+line c = let f = c .before .before in answer-octets _ _ (f .read-line .ensures) (c .count .given .1)
 
 returns-2 : tie.Need-returns-2
 returns-2 c =
@@ -43,7 +42,7 @@ returns-3 c =
 returns-4 : tie.Need-returns-4
 returns-4 c =
     let f = c .before .before .before in
-    next-refused _ _ _ _ (f .before .if1 .left) (answer-refused _ _ _ (sym (f .read-line .ensures) ∙ c .before .number .given .1))
+    next-refused _ _ _ _ (f .before .if1 .left) (answer-refused _ _ (f .read-line .ensures) (c .before .number .given .1))
 
 returns-5 : tie.Need-returns-5
 returns-5 c =

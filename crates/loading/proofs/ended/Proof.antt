@@ -1,5 +1,5 @@
 -- `ended` meets its contract.
-use mathlib.Core.Path.{sym, _∙_}
+use mathlib.Core.Path.{_∙_}
 use native.Mathlib.Omega.{arith}
 use borrow.Author.Needs.{needs}
 use Rattle.octets.specs.AnswerLaws.{answer-refused, answer-octets}
@@ -24,7 +24,7 @@ returns c =
     let l = c .before .before .before .before in
     c .not-loaded .ensures
     ∙ ended-refused _ _ _ _ (l .before .if1 .taken)
-    (answer-refused _ _ _ (sym (l .read-line .ensures) ∙ c .before .before .number .given .1))
+    (answer-refused _ _ (l .read-line .ensures) (c .before .before .number .given .1))
 
 enum-told : tie.Need-enum-told
 enum-told c = search needs
@@ -40,7 +40,7 @@ returns-2 c =
     let l = c .before .before .before in
     c .not-loaded2 .ensures
     ∙ ended-more _ _ _ _ (l .before .if1 .taken)
-    (answer-octets _ _ _ _ _ (sym (l .read-line .ensures) ∙ c .before .enum-told .given .1) .framed)
+    (answer-octets _ _ (l .read-line .ensures) (c .before .enum-told .given .1) .framed)
 
 has-circles-requires : tie.Need-has-circles-requires
 has-circles-requires c κs = c .before .before .pre .1 .loads

@@ -1,11 +1,12 @@
 -- `finish` meets its contract: each way out is a law of `Ends`.
 use Prim.Native.Nat.{_≤_}
-use mathlib.Core.Path.{sym, _∙_}
+use mathlib.Core.Path.{sym, _∙_, ap}
 use native.Mathlib.Omega.{arith}
 use borrow.Author.Needs.{needs}
 use Rattle.common.specs.Limits.{mostLines}
 use Rattle.reading.specs.Stages.{Ready}
 use Rattle.policy.specs.Table.{end}
+use Rattle.lines.specs.NextLine.{nextValues}
 use Rattle.lines.proofs.FoundLine.{FoundLine, found-line}
 use Rattle.loading.proofs.Ends.{finish-refused, finish-missing, finish-other, finish-unread, finish-count, finish-sum, finish-ended}
 use Rattle.loading.proofs.finish.Statement.{statement}
@@ -35,7 +36,7 @@ ready e = entry e .pre (e .if1 .left)
 -- the end line that was found
 found : (n : tie.After-next) → let a = entry (tested (line n)) .args in
     FoundLine (a .text .now) (a .from .cursor .offset) 0xFF 9 (n .next .given .0 .0) (n .next .given .0 .1 .0)
-found n = found-line _ _ 0xFF 9 (sym (line n .next-line .ensures) ∙ n .next .given .1)
+found n = found-line _ _ 0xFF 9 (sym (line n .next-line .ensures) ∙ ap nextValues (n .next .given .1))
 
 returns : tie.Need-returns
 returns c = c .not-loaded .ensures ∙ finish-refused _ _ (c .before .if1 .taken)
@@ -126,14 +127,16 @@ returns-5 c =
     let l = o .before .before in
     let e = tested l in
     c .not-loaded3 .ensures
-    ∙ finish-other _ _ (e .if1 .left) (ready e) (l .before .if2 .left) (sym (l .next-line .ensures) ∙ o .enum-told .given .1)
+    ∙ finish-other _ _ (e .if1 .left) (ready e) (l .before .if2 .left)
+    (sym (l .next-line .ensures) ∙ ap nextValues (o .enum-told .given .1))
 
 returns-6 : tie.Need-returns-6
 returns-6 c =
     let n = c .before .before .before in
     let l = n .before .before in
     let e = tested l in
-    c .not-loaded4 .ensures ∙ finish-unread _ _ (e .if1 .left) (ready e) _ (sym (l .next-line .ensures) ∙ n .number .given .1)
+    c .not-loaded4 .ensures
+    ∙ finish-unread _ _ (e .if1 .left) (ready e) _ (sym (l .next-line .ensures) ∙ ap nextValues (n .number .given .1))
 
 returns-7 : tie.Need-returns-7
 returns-7 c =

@@ -7,7 +7,7 @@ use borrow.Author.Needs.{needs}
 use lib.ListN.{length}
 use Rattle.common.specs.Lists.{at}
 use Rattle.octets.specs.Line.{digitValue, octet}
-use Rattle.octets.specs.Answers.{lineAnswer}
+use Rattle.octets.specs.Answers.{framedValues}
 use Rattle.octets.proofs.Running.{Run, run-start, run-more, run-out, run-other, run-short, run-other₂, run-end}
 use Rattle.octets.proofs.read_line.Statement.{statement}
 use Rattle.octets.proofs.read_line.Tie as tie
@@ -45,7 +45,7 @@ returns-2 c =
     let a = d .before in
     let h = a .before .before in
     let e = run-other (h .loop .inv) (a .before .loop-test .taken) (d .if1 .left) (omega arith) in
-    sym (ap (lineAnswer (h .before .before .args .offset)) e)
+    sym (ap (framedValues (h .before .before .args .offset)) e)
 
 add-j : tie.Need-add-j Inv-loop μ-loop
 add-j c = omega arith
@@ -56,7 +56,7 @@ returns-3 c =
     let a = d .before in
     let h = a .before .before in
     let e = run-short (h .loop .inv) (a .before .loop-test .taken) (d .if1 .left) (omega arith) in
-    sym (ap (lineAnswer (h .before .before .args .offset)) e)
+    sym (ap (framedValues (h .before .before .args .offset)) e)
 
 shared-slice-read-digit-value : tie.Need-shared-slice-read-digit-value Inv-loop μ-loop
 shared-slice-read-digit-value c = omega arith
@@ -74,7 +74,7 @@ returns-4 c =
     let a = d .before in
     let h = a .before .before in
     let e = run-other₂ (h .loop .inv) (a .before .loop-test .taken) (d .if1 .left) (omega arith) (omega arith) in
-    sym (ap (lineAnswer (h .before .before .args .offset)) e)
+    sym (ap (framedValues (h .before .before .args .offset)) e)
 
 mul-o : tie.Need-mul-o Inv-loop μ-loop
 mul-o c = omega arith
@@ -124,7 +124,7 @@ loop-again c =
 returns-5 : tie.Need-returns-5 Inv-loop μ-loop
 returns-5 c =
     let h = c .before in
-    sym (ap (lineAnswer (h .before .before .args .offset)) (run-out (h .loop .inv) (omega arith)))
+    sym (ap (framedValues (h .before .before .args .offset)) (run-out (h .loop .inv) (omega arith)))
 
 pub read-line-spec : {M : Type 1} → statement M
 read-line-spec =

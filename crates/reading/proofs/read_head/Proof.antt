@@ -1,11 +1,12 @@
 -- `read_head` meets its contract.
-use mathlib.Core.Path.{_≡_, refl, sym, _∙_, subst, subst₂}
+use mathlib.Core.Path.{_≡_, refl, sym, _∙_, ap, subst, subst₂}
 use mathlib.Core.List.{[], _∷_}
 use native.Mathlib.Omega.{arith}
 use borrow.Author.Needs.{needs}
 use Rattle.policy.specs.declared.Record.{Record}
 use Rattle.policy.specs.Table.{head, appended}
 use Rattle.lines.specs.declared.Cursor.{Cursor}
+use Rattle.lines.specs.NextLine.{nextValues}
 use Rattle.reading.specs.Body.{numbers}
 use Rattle.reading.specs.Stages.{Starts}
 use Rattle.lines.proofs.FoundLine.{FoundLine, found-line, sum-most}
@@ -60,7 +61,7 @@ stopped-requires-3 c κs = search needs
 
 -- the line that was found, and its numbers
 found : (n : tie.After-next) → FoundLine (entry (line n) .args .text .now) 0 0x01 5 (n .next .given .0 .0) (n .next .given .0 .1 .0)
-found n = found-line _ 0 0x01 5 (sym (line n .next-line .ensures) ∙ n .next .given .1)
+found n = found-line _ 0 0x01 5 (sym (line n .next-line .ensures) ∙ ap nextValues (n .next .given .1))
 
 taken : (q : tie.After-head-refusal)
     → numbers head (found (ours q) .os) ≡ q .before .before .octet-at .result ∷ q .before .octet-at2 .result ∷ []
@@ -86,12 +87,13 @@ returns-2 : tie.Need-returns-2
 returns-2 c =
     let l = c .before .before .before in
     subst (Starts _) (sym (c .stopped .ensures))
-    (head-other _ _ (entry l .pre) (sym (l .next-line .ensures) ∙ c .before .enum-told .given .1))
+    (head-other _ _ (entry l .pre) (sym (l .next-line .ensures) ∙ ap nextValues (c .before .enum-told .given .1)))
 
 returns-3 : tie.Need-returns-3
 returns-3 c =
     let n = c .before .before in
-    subst (Starts _) (sym (c .stopped2 .ensures)) (head-unread _ _ _ (sym (n .before .before .next-line .ensures) ∙ n .number .given .1))
+    subst (Starts _) (sym (c .stopped2 .ensures))
+    (head-unread _ _ _ (sym (n .before .before .next-line .ensures) ∙ ap nextValues (n .number .given .1)))
 
 returns-4 : tie.Need-returns-4
 unfolding appended

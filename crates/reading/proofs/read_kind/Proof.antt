@@ -10,8 +10,9 @@ use Rattle.common.specs.Lists.{at}
 use Rattle.policy.specs.declared.Record.{Record}
 use Rattle.policy.specs.Table.{Kind, user, edge, formula, demarcation, hierarchy, principal, exclusion, prerequisite, method, code, room}
 use Rattle.policy.specs.Table.{kindOf}
-use Rattle.lines.specs.Judging.{fieldsOf, Judges, Takes}
+use Rattle.lines.specs.Judging.{fieldsOf}
 use Rattle.lines.proofs.EachKind.{last-kind}
+use Rattle.lines.proofs.JudgedLine.{Takes, answer-other, answer-refused, answer-taken}
 use Rattle.reading.specs.Stages.{Reads}
 use Rattle.reading.proofs.AppendedAt.{appendedAt}
 use Rattle.reading.proofs.Partway.{stage, reads-refused}
@@ -59,7 +60,7 @@ returns-2 : tie.Need-returns-2 Inv-loop μ-loop
 returns-2 c =
     let l = c .before .before in
     let h = judged l in
-    taken-all (entry h .pre .0) (h .loop .inv) (subst (Judges _ _ _ _ _ _) (c .enum-told .given .1) (l .judged-line .ensures))
+    taken-all (entry h .pre .0) (h .loop .inv) (answer-other _ _ _ _ _ _ (l .judged-line .ensures) (c .enum-told .given .1))
 
 enum-known-number : tie.Need-enum-known-number Inv-loop μ-loop
 enum-known-number c = search needs
@@ -73,7 +74,7 @@ returns-3 c =
     let l = n .before .before in
     let h = judged l in
     subst (Reads _ _ _) (sym (c .stopped .ensures))
-    (taken-refused (entry h .pre .0) (h .loop .inv) (subst (Judges _ _ _ _ _ _) (n .number .given .1) (l .judged-line .ensures)))
+    (taken-refused (entry h .pre .0) (h .loop .inv) (answer-refused _ _ _ _ _ _ (l .judged-line .ensures) (n .number .given .1)))
 
 enum-known-row : tie.Need-enum-known-row Inv-loop μ-loop
 enum-known-row c = search needs
@@ -83,7 +84,7 @@ enum-known-row c = search needs
 takes : (q : tie.After-row Inv-loop μ-loop) → let h = turn q in let x = entry h .args in let s = h .loop in let v = q .row .given .0 in
     Takes (x .text .now) (s .cursor) (x .kind) (x .size) (boundsOf (s .rules) (s .count) (s .«least-key»)) (at (s .heights))
     (v .0) (v .1 .0) (v .1 .1 .0) (v .1 .1 .1 .0)
-takes q = subst (Judges _ _ _ _ _ _) (q .row .given .1) (q .before .before .judged-line .ensures)
+takes q = answer-taken _ _ _ _ _ _ (q .before .before .judged-line .ensures) (q .row .given .1)
 
 -- the row that it fills, once its kind is known
 fills : (q : tie.After-row Inv-loop μ-loop) (j : Kind) → let h = turn q in kindOf (entry h .args .kind) ≡ j → h .loop .count < room j

@@ -8,6 +8,8 @@ use borrow.Author.Tests.{not-true, not-false}
 use lib.Pow.{pow-pos}
 use lib.Count.{ones-le}
 use Rattle.common.specs.Limits.{mostPrincipals}
+use Rattle.search.specs.Answers.GrantedOrDenied.{grants, denies}
+use Rattle.search.specs.AnswerLaws.{found-set, found-nothing}
 use Rattle.search.specs.Steps.{State, NeededBy, NoCompletion}
 use Rattle.search.proofs.Steps.{chosen-alone, chosen-fails, too-few, keep, neither, without, «with», room, step}
 use Rattle.search.proofs.Prunes.{not-feasible, needed-below, no-join, need-more}
@@ -61,13 +63,15 @@ search-candidate-requires t c κs =
     (s .few, omega (arith, s .room, pow-pos (c .before .args .n)))
 
 search-returns : (t : ℕ) → search-lts.Need-returns (claims t) (search-at t) search′.Post
-search-returns t c = rw (c .before .before .if1 .taken) (chosen-alone (c .before .candidate .ensures .yes (c .if2 .taken)))
+search-returns t c =
+    grants _ refl (rw (c .before .before .if1 .taken) (chosen-alone (c .before .candidate .ensures .yes (c .if2 .taken))))
 
 search-returns-2 : (t : ℕ) → search-lts.Need-returns-2 (claims t) (search-at t) search′.Post
-search-returns-2 t c = rw (c .before .before .if1 .taken) (chosen-fails (c .before .candidate .ensures .no (c .if2 .left)))
+search-returns-2 t c =
+    denies refl (rw (c .before .before .if1 .taken) (chosen-fails (c .before .candidate .ensures .no (c .if2 .left))))
 
 search-returns-3 : (t : ℕ) → search-lts.Need-returns-3 (claims t) (search-at t) search′.Post
-search-returns-3 t c = too-few (c .if3 .taken)
+search-returns-3 t c = denies refl (too-few (c .if3 .taken))
 
 -- past these tests n is not 0; what was asked on entry
 module _ {t : ℕ} (c : search-lts.Else3 (claims t) (search-at t) search′.Post) where
@@ -102,7 +106,7 @@ search-feasible-requires t c κs = state c .few
 search-returns-4 : (t : ℕ) → search-lts.Need-returns-4 (claims t) (search-at t) search′.Post
 search-returns-4 t c =
     let past = c .before .before in
-    not-feasible (state past) (need past) refl (c .before .feasible .ensures (not-true _ (c .if4 .taken)))
+    denies refl (not-feasible (state past) (need past) refl (c .before .feasible .ensures (not-true _ (c .if4 .taken))))
 
 search-sub-m : (t : ℕ) → search-lts.Need-sub-m (claims t) (search-at t) search′.Post
 search-sub-m t c = omega (arith, pos (c .before .before))
@@ -129,7 +133,7 @@ search-enum-known-without t c = search needs
 search-returns-5 : (t : ℕ) → search-lts.Need-returns-5 (claims t) (search-at t) search′.Post
 search-returns-5 t c =
     let called = c .before .before .before in
-    keep (pos (passed-by (called .before))) (rw (c .before .without .given .1) at (called .search .ensures))
+    grants _ refl (keep (pos (passed-by (called .before))) (found-set (called .search .ensures) (c .before .without .given .1)))
 
 search-enum-told : (t : ℕ) → search-lts.Need-enum-told (claims t) (search-at t) search′.Post
 search-enum-told t c = search needs
@@ -142,7 +146,7 @@ module _ {t : ℕ} (c : search-lts.Joined5 (claims t) (search-at t) search′.Po
   -- there is no candidate among them
   skipped : let a = entry tested .args in NoCompletion (a .masks) (a .n - 1) (a .k) (a .chosen)
   skipped = ⊎-elim
-      (λ w. rw (w .4 .given .1) at (w .2 .ensures))
+      (λ w. found-nothing (w .2 .ensures) (w .4 .given .1))
       (λ w. needed-below (state tested) (pos tested) (need tested) (c .before .has .ensures .yes (not-false _ (w .left))))
       (c .if5 .came)
 
@@ -153,8 +157,9 @@ search-returns-6 : (t : ℕ) → search-lts.Need-returns-6 (claims t) (search-at
 search-returns-6 t c =
     let met = c .before .before in
     let past = tested met in
-    neither (pos past) (some past) (skipped met)
-    (no-join (state past) (pos past) (c .before .joins .ensures .no (not-true _ (c .if6 .taken))))
+    denies refl
+    (neither (pos past) (some past) (skipped met)
+    (no-join (state past) (pos past) (c .before .joins .ensures .no (not-true _ (c .if6 .taken)))))
 
 search-with-requires : (t : ℕ) → search-lts.Need-with-requires (claims t) (search-at t) search′.Post
 search-with-requires t c κs =
@@ -186,7 +191,7 @@ search-returns-7 : (t : ℕ) → search-lts.Need-returns-7 (claims t) (search-at
 search-returns-7 t c =
     let met = joined (c .before) in
     let past = tested met in
-    step (pos past) (c .search2 .result) (some past) (skipped met) (rw (c .before .before .with .ensures) at (c .search2 .ensures))
+    step (pos past) (some past) (skipped met) (rw (c .before .before .with .ensures) at (c .search2 .ensures))
 
 pub +search-spec : {M : Type 1} → statement M
 +search-spec = close μ-search λ t. search-lts.spec (claims t)

@@ -1,11 +1,14 @@
 -- `search::least` meets its contract. The loop's invariant: every candidate has k members or more.
 use Prim.Native.Nat.{ℕ, _+_, _-_, _≤_, zero-le}
+use mathlib.Core.Path.{refl}
 use native.Mathlib.Omega.{arith}
 use borrow.Author.Needs.{needs}
 use borrow.Author.Tests.{not-true}
 use lib.Count.{ones}
 use Rattle.common.specs.SetLaws.{none-in-zero}
 use Rattle.search.specs.Search.{Candidate}
+use Rattle.search.specs.Answers.GrantedOrDenied.{grants, denies}
+use Rattle.search.specs.AnswerLaws.{found-set, found-nothing}
 use Rattle.search.proofs.Steps.{start, least-found, higher, past}
 use Rattle.search.proofs.Prunes.{no-candidate}
 use Rattle.search.proofs.least.Statement.{statement}
@@ -23,7 +26,7 @@ feasible-requires : tie.Need-feasible-requires Inv-loop μ-loop
 feasible-requires c κs = c .pre
 
 returns : tie.Need-returns Inv-loop μ-loop
-returns c = no-candidate (c .before .before .pre) (c .before .feasible .ensures (not-true _ (c .if1 .taken)))
+returns c = denies refl (no-candidate (c .before .before .pre) (c .before .feasible .ensures (not-true _ (c .if1 .taken))))
 
 loop-holds : tie.Need-loop-holds Inv-loop μ-loop
 loop-holds c = (λ t d. zero-le, omega arith)
@@ -38,7 +41,7 @@ enum-known-found c = search needs
 returns-2 : tie.Need-returns-2 Inv-loop μ-loop
 returns-2 c =
     let called = c .before .before .before in
-    least-found (called .before .before .loop .inv .0) (rw (c .before .found .given .1) at (called .search .ensures))
+    grants _ refl (least-found (called .before .before .loop .inv .0) (found-set (called .search .ensures) (c .before .found .given .1)))
 
 enum-told : tie.Need-enum-told Inv-loop μ-loop
 enum-told c = search needs
@@ -52,10 +55,10 @@ loop-less c = omega arith
 loop-again : tie.Need-loop-again Inv-loop μ-loop
 loop-again c =
     let called = c .before .before in
-    (higher (called .before .before .loop .inv .0) (rw (c .enum-told .given .1) at (called .search .ensures)), omega arith)
+    (higher (called .before .before .loop .inv .0) (found-nothing (called .search .ensures) (c .enum-told .given .1)), omega arith)
 
 returns-3 : tie.Need-returns-3 Inv-loop μ-loop
-returns-3 c = past (c .before .loop .inv .0) (omega arith)
+returns-3 c = denies refl (past (c .before .loop .inv .0) (omega arith))
 
 pub least-spec : {M : Type 1} → statement M
 least-spec =
