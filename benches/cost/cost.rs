@@ -1,25 +1,63 @@
-// What an evaluation and a search for the least set cost, measured through the crate `probe` (docs/PERFORMANCE.md).
-// Everything is made from one seed. Times are processor time, the median of several calls, net of loading.
+// What an evaluation and a search for the least set cost, measured through questions on a lent record that was loaded once
+// (docs/PERFORMANCE.md). Everything is made from one seed. Times are processor time, the median of several, net of what else a
+// question does.
 
 use std::time::{Duration, Instant};
 
-mod probe {
+mod engine {
+    #[repr(C, align(8))]
+    struct Record([u8; 5104]);
+
     extern "C" {
-        fn probe_formula(bundle: *const u8, length: usize, formula: u8, object: u8, requestor: u8) -> u32;
-        fn probe_least(bundle: *const u8, length: usize, method: u8, allowed: u32) -> u32;
+        fn access_load(record: *mut Record, bundle: *const u8, length: usize) -> u64;
+        fn access_answer(
+            record: *mut Record,
+            calls: *const [u8; 4],
+            calls_length: usize,
+            answers: *mut [u8; 5],
+            answers_length: usize,
+        ) -> u64;
     }
 
-    pub fn formula(bundle: &[u8], formula: u8, object: u8, requestor: u8) -> u32 {
-        unsafe { probe_formula(bundle.as_ptr(), bundle.len(), formula, object, requestor) }
-    }
+    // A record that a bundle was loaded into.
+    pub struct Loaded(Box<Record>);
 
-    pub fn least(bundle: &[u8], method: u8, allowed: u32) -> u32 {
-        unsafe { probe_least(bundle.as_ptr(), bundle.len(), method, allowed) }
+    impl Loaded {
+        pub fn of(bundle: &[u8]) -> Loaded {
+            let mut record = Box::new(Record([0; 5104]));
+            if unsafe { access_load(&mut *record, bundle.as_ptr(), bundle.len()) } != 0 {
+                super::stop("a bundle did not load");
+            }
+            Loaded(record)
+        }
+
+        // Answers as many calls as there are answers.
+        pub fn answer(&mut self, calls: &[[u8; 4]], answers: &mut [[u8; 5]]) {
+            let (c, a) = (4 * calls.len(), 5 * answers.len());
+            let count = unsafe { access_answer(&mut *self.0, calls.as_ptr(), c, answers.as_mut_ptr(), a) };
+            if count != answers.len() as u64 {
+                super::stop("not every call was answered");
+            }
+        }
+
+        // The set that a question about object 0 is granted, or NO_SET.
+        pub fn ask(&mut self, kind: u8, method: u8, requestor: u8) -> u32 {
+            let mut answers = [[0; 5]];
+            self.answer(&[[kind, method, 0, requestor]], &mut answers);
+            match answers[0] {
+                [0, high, middle, low, _] => u32::from_be_bytes([0, high, middle, low]),
+                [17, ..] => super::NO_SET,
+                _ => super::stop("a question was refused"),
+            }
+        }
     }
 }
 
+use engine::Loaded;
+
 const NO_SET: u32 = 4294967295;
-const NO_METHOD: u32 = 4294967294;
+const EAGER: u8 = 2;
+const LAZY: u8 = 3;
 
 // ---- bundles
 
@@ -74,15 +112,15 @@ fn used() -> f64 {
     time[0] as f64 * 1e6 + time[1] as f64 / 1e3
 }
 
-fn timed(call: impl Fn() -> u32) -> (u32, f64) {
+fn timed<T>(call: impl FnOnce() -> T) -> (T, f64) {
     let start = used();
     let answer = std::hint::black_box(call());
     (answer, used() - start)
 }
 
 // The answer, and the median of so many calls.
-fn typical(calls: usize, call: impl Fn() -> u32) -> (u32, f64) {
-    let all: Vec<(u32, f64)> = (0..calls).map(|_| timed(&call)).collect();
+fn typical(calls: usize, mut call: impl FnMut() -> u32) -> (u32, f64) {
+    let all: Vec<(u32, f64)> = (0..calls).map(|_| timed(&mut call)).collect();
     (all[0].0, median(&all.iter().map(|a| a.1).collect::<Vec<f64>>()))
 }
 
@@ -102,11 +140,14 @@ fn stop(words: &str) -> ! {
 const OBJECTS: u8 = 22;
 const HEIGHTS: usize = 9;
 const ROUNDS: usize = 9;
-const CALLS: usize = 600;
+const LISTS: usize = 60;
+const QUESTIONS: usize = 20;
 
-// Every object joined to every object by label 0. Formula 0 as given, formula i a step to formula i - 1.
-fn joined(innermost: [u8; 3]) -> Vec<u8> {
+// Every object joined to every object by label 0. Formula 0 as given, formula i a step to formula i - 1; one principal, with the
+// formula of a height. Method 0 asks for what the principal gives; method 1, all-of nothing, is met by the empty set.
+fn joined(innermost: [u8; 3], height: u8) -> Vec<u8> {
     let mut b = Bundle::of(OBJECTS);
+    b.line(0x02, &[OBJECTS - 1, 0, 0]);
     for from in 0..OBJECTS {
         for to in 0..OBJECTS {
             b.line(0x03, &[0, from, to]);
@@ -116,48 +157,64 @@ fn joined(innermost: [u8; 3]) -> Vec<u8> {
     for i in 1..HEIGHTS as u8 {
         b.line(0x04, &[7, 0, i - 1]);
     }
+    b.line(0x05, &[0, 0, 0, 0, 0, 0, 0, 1]);
+    b.line(0x07, &[height, 0]);
+    b.line(0x0A, &[1, 0, 0, 0, 0, 0, 0, 0, 1]);
+    b.line(0x0A, &[1, 0, 0, 0, 0, 0, 0, 0, 0]);
     b.ended()
+}
+
+// Two objects in turn, 0 the last, so that each question empties the memo and evaluates. The answer is the empty set whatever that
+// comes to.
+fn evaluations() -> [[u8; 4]; QUESTIONS] {
+    std::array::from_fn(|i| [EAGER, 1, (i as u8 + 1) % 2, OBJECTS - 1])
 }
 
 fn formulas() {
     // innermost: a role that the requestor does not hold; here is the requestor; true
-    let (object, requestor) = (0, OBJECTS - 1);
     let innermosts = [("true nowhere", [3, 0, 0]), ("at one object", [1, 0, 0]), ("everywhere", [0, 0, 0])];
-    let bundles = innermosts.map(|(_, innermost)| joined(innermost));
     let truths = [[0; HEIGHTS], [0, 1, 1, 1, 1, 1, 1, 1, 1], [1; HEIGHTS]];
-    for (b, truth) in bundles.iter().zip(&truths) {
+    let mut records: Vec<Vec<Loaded>> = innermosts
+        .iter()
+        .map(|(_, innermost)| (0..HEIGHTS as u8).map(|h| Loaded::of(&joined(*innermost, h))).collect())
+        .collect();
+    for (of, truth) in records.iter_mut().zip(&truths) {
         for h in 0..HEIGHTS {
-            if probe::formula(b, h as u8, object, requestor) != truth[h] {
+            if of[h].ask(EAGER, 0, OBJECTS - 1) != if truth[h] == 1 { 1 } else { NO_SET } {
                 stop("an evaluation came to something else than it must");
             }
         }
     }
-    // net[innermost][height][round]; the calls of a round take turns
-    let mut net = vec![vec![vec![]; HEIGHTS]; bundles.len()];
-    let mut loading = vec![];
+    // net[innermost][height][round]; the lists of a round take turns
+    let mut net = vec![vec![vec![]; HEIGHTS]; records.len()];
+    let mut without = vec![];
+    let (calls, mut answers) = (evaluations(), [[0; 5]; QUESTIONS]);
     for _ in 0..ROUNDS {
-        let mut times = vec![vec![vec![]; HEIGHTS]; bundles.len()];
-        for _ in 0..CALLS {
-            for (i, b) in bundles.iter().enumerate() {
+        let mut times = vec![vec![vec![]; HEIGHTS]; records.len()];
+        for _ in 0..LISTS {
+            for (i, of) in records.iter_mut().enumerate() {
                 for h in 0..HEIGHTS {
-                    times[i][h].push(timed(|| probe::formula(b, h as u8, object, requestor)).1);
+                    times[i][h].push(timed(|| of[h].answer(&calls, &mut answers)).1 / QUESTIONS as f64);
+                    if answers.iter().any(|a| *a != [0, 0, 0, 0, 1]) {
+                        stop("a question did not evaluate the one formula");
+                    }
                 }
             }
         }
-        for i in 0..bundles.len() {
+        for i in 0..records.len() {
             for h in 0..HEIGHTS {
                 net[i][h].push(median(&times[i][h]) - median(&times[i][0]));
             }
         }
-        loading.push(median(&times[0][0]));
+        without.push(median(&times[0][0]));
     }
     println!(
         "Evaluation of nested steps: {} objects, all joined, {} edges.",
         OBJECTS,
         OBJECTS as usize * OBJECTS as usize
     );
-    println!("Microseconds, net of height 0, whose call, loading included, takes {:.1}.", median(&loading));
-    println!("Median of {ROUNDS} rounds (lowest to highest), each the median of {CALLS} calls. By what the innermost formula is:\n");
+    println!("Microseconds, net of height 0, whose question takes {:.1} in a list of {QUESTIONS}.", median(&without));
+    println!("Median of {ROUNDS} rounds (lowest to highest), each the median of {LISTS} lists. By what the innermost formula is:\n");
     println!(
         "| height | {} | per level, slowest | edge visits, vertex by vertex |",
         innermosts.map(|(name, _)| name).join(" | ")
@@ -196,16 +253,19 @@ impl Rules {
         self.excludes[q] ^= 1 << p;
     }
 
-    // Method 0 is the guard; method 1, all-of nothing, is met by the empty set.
-    fn bundle(&self) -> Vec<u8> {
+    // One object, which is a user. Method 0 is the guard; method 1, all-of nothing, is met by the empty set.
+    // The principals allowed have a formula that is true, the others one that is not.
+    fn loaded(&self, allowed: u32) -> Loaded {
         let n = self.count;
         let mut b = Bundle::of(1);
+        b.line(0x02, &[0, 0, 0]);
         b.line(0x04, &[0, 0, 0]);
+        b.line(0x04, &[4, 0, 0]);
         for p in 0..n {
             b.line(0x05, &self.gives[p].to_be_bytes());
         }
         for p in 0..n {
-            b.line(0x07, &[0, p as u8]);
+            b.line(0x07, &[!has(allowed, p) as u8, p as u8]);
         }
         for p in 0..n {
             for q in p + 1..n {
@@ -225,7 +285,7 @@ impl Rules {
         guard.extend_from_slice(&self.wanted.to_be_bytes());
         b.line(0x0A, &guard);
         b.line(0x0A, &[1, 0, 0, 0, 0, 0, 0, 0, 0]);
-        b.ended()
+        Loaded::of(&b.ended())
     }
 
     fn will_do(&self, s: u32, allowed: u32) -> bool {
@@ -464,19 +524,21 @@ const CHECKED: usize = 6;
 
 struct Measured {
     net: f64,
+    without: f64,
     rules: Rules,
     answer: u32,
 }
 
+// The first question evaluates what there is; the memo knows it from then on.
 fn measured(rules: Rules, calls: usize) -> Measured {
-    let all = first(rules.count) as u32;
-    let b = rules.bundle();
-    let (answer, time) = typical(calls, || probe::least(&b, 0, all));
-    let (empty, loading) = typical(calls, || probe::least(&b, 1, all));
-    if answer == NO_METHOD || empty != 0 {
-        stop("a bundle did not load");
+    let mut record = rules.loaded(first(rules.count) as u32);
+    record.ask(EAGER, 1, 0);
+    let (answer, time) = typical(calls, || record.ask(EAGER, 0, 0));
+    let (empty, without) = typical(calls, || record.ask(EAGER, 1, 0));
+    if empty != 0 {
+        stop("the empty set does not meet a guard that asks for nothing");
     }
-    Measured { net: (time - loading).max(0.0), rules, answer }
+    Measured { net: (time - without).max(0.0), without, rules, answer }
 }
 
 fn denied(m: &Measured) -> bool {
@@ -541,12 +603,14 @@ fn compared(g: &mut Random) -> usize {
         for n in [8, 10, 12] {
             for _ in 0..CHECKED {
                 let r = made(g, family, n);
-                let b = r.bundle();
                 for allowed in [first(n) as u32, g.next() as u32] {
-                    if probe::least(&b, 0, allowed) != r.least(allowed) {
-                        stop("the least set is not that of the search over all subsets");
+                    let least = r.least(allowed);
+                    for kind in [EAGER, LAZY] {
+                        if r.loaded(allowed).ask(kind, 0, 0) != least {
+                            stop("the least set is not that of the search over all subsets");
+                        }
+                        count += 1;
                     }
-                    count += 1;
                 }
             }
         }
@@ -559,13 +623,14 @@ fn least_sets(climb: Duration) {
     let count = compared(&mut g);
     println!("\nThe least set: 20 principals, {INSTANCES} instances of each family, seed {SEED}.");
     println!("{count} answers on 8, 10 and 12 principals are those of a search over all subsets.");
-    println!("Microseconds, net of the same call for a guard that the empty set meets.\n");
+    println!("Microseconds, net of the same question for a guard that the empty set meets.\n");
     println!("| family | granted | median | worst grant (members) | worst denial |");
     println!("|---|---|---|---|---|");
-    let (mut grants, mut denials) = (vec![], vec![]);
+    let (mut grants, mut denials, mut without) = (vec![], vec![], vec![]);
     for (family, name) in FAMILIES.iter().enumerate() {
         let all: Vec<Measured> = (0..INSTANCES).map(|_| measured(made(&mut g, family, 20), 3)).collect();
         let times: Vec<f64> = all.iter().map(|m| m.net).collect();
+        without.extend(all.iter().map(|m| m.without));
         let granted = all.iter().filter(|m| !denied(m)).count();
         let (grant, denial) = (worst(&all, |m| !denied(m)), worst(&all, denied));
         println!(
@@ -577,6 +642,7 @@ fn least_sets(climb: Duration) {
         grants.extend(grant);
         denials.extend(denial);
     }
+    println!("\nThe question for the guard that the empty set meets: {:.1} (median).", median(&without));
     println!(
         "\nClimbing from the worst: small changes that make the search no faster are kept, {} seconds for each.",
         climb.as_secs()

@@ -1,9 +1,10 @@
 //! How fast the engine is beside the reference, as ratios from one run.
 //!
-//! Both are called through the same two functions on bytes, in turn within each round, so that both
-//! see the same machine. Times are processor time in microseconds: the median of the rounds, with
+//! Both are called through the same functions on bytes, in turn within each round, so that both see
+//! the same machine. Times are processor time in microseconds: the median of the rounds, with
 //! the lowest and the highest one. A ratio below 1 means that the engine is faster. Nothing fails
-//! because of time; it fails where the answers differ, since such times would mean nothing.
+//! because of time; it fails where the answers differ, since such times would mean nothing. A word
+//! after `cargo bench --` measures only the sections that have it in their title.
 
 #[cfg(not(engine))]
 compile_error!("../target/staticlib/libcapi.a is missing: `rt staticlib capi` makes it");
@@ -16,6 +17,8 @@ mod clock;
 mod cover;
 #[path = "ratios/edits.rs"]
 mod edits;
+#[path = "ratios/lent.rs"]
+mod lent;
 #[path = "ratios/longest.rs"]
 mod longest;
 #[path = "ratios/measure.rs"]
@@ -26,6 +29,8 @@ mod mixed;
 mod questions;
 #[path = "ratios/run.rs"]
 mod run;
+#[path = "ratios/side.rs"]
+mod side;
 #[path = "ratios/spread.rs"]
 mod spread;
 #[path = "ratios/table.rs"]
@@ -65,24 +70,42 @@ fn main() {
     let start = Instant::now();
     let mut longest = Longest::default();
     table::head();
-    section("loading and writing", bundles::workloads(), &mut longest);
-    let crown = section("crown: questions", questions::crown(), &mut longest);
-    section("full policy", questions::full(), &mut longest);
-    tower::section(&mut longest);
-    let covers = cover::workloads(&mut longest);
-    section(cover::TITLE, covers, &mut longest);
-    section("edits", edits::workloads(), &mut longest);
-    section("10,000 mixed calls", mixed::workloads(), &mut longest);
+    section("loading and writing", bundles::workloads, &mut longest);
+    let crown = section("crown: questions", questions::crown, &mut longest);
+    section("full policy", questions::full, &mut longest);
+    if is_wanted(tower::TITLE) {
+        tower::section(&mut longest);
+    }
+    let covers = is_wanted(cover::TITLE).then(|| cover::workloads(&mut longest));
+    section(cover::TITLE, || covers.unwrap_or_default(), &mut longest);
+    section("edits", edits::workloads, &mut longest);
+    section("10,000 mixed calls", mixed::workloads, &mut longest);
+    let lent = section(lent::TITLE, lent::workloads, &mut longest);
     longest.print();
-    role_check(&crown);
+    crowns_question("in a list", &crown, "");
+    crowns_question("by itself", &lent, "crown, ");
+    println!("  One role check of a general role-only library took {ROLE_CHECK} µs.");
     println!("The run took {:.0} s.", start.elapsed().as_secs_f64());
 }
 
+/// Whether the command's word, if there is one, is in the title of a section.
+fn is_wanted(title: &str) -> bool {
+    let word = std::env::args().skip(1).find(|word| !word.starts_with('-'));
+    word.is_none_or(|word| title.contains(&word))
+}
+
 /// Measures and prints workloads under a title, and gives their rows.
-fn section(title: &str, workloads: Vec<Workload>, longest: &mut Longest) -> Vec<Row> {
+fn section(
+    title: &str,
+    workloads: impl FnOnce() -> Vec<Workload>,
+    longest: &mut Longest,
+) -> Vec<Row> {
+    if !is_wanted(title) {
+        return Vec::new();
+    }
     table::title(title);
     let mut rows = Vec::new();
-    for workload in workloads {
+    for workload in workloads() {
         longest.consider(title, &workload);
         let row = measure::row(&workload);
         table::print(&row);
@@ -91,11 +114,12 @@ fn section(title: &str, workloads: Vec<Workload>, longest: &mut Longest) -> Vec<
     rows
 }
 
-/// Puts the crown's lazy questions beside the general library's check.
-fn role_check(crown: &[Row]) {
-    for row in crown.iter().filter(|row| row.name.starts_with("lazy")) {
+/// Says how long the crown's lazy questions took, in rows whose names begin so.
+fn crowns_question(place: &str, rows: &[Row], beginning: &str) {
+    let lazy = format!("{beginning}lazy");
+    for row in rows.iter().filter(|row| row.name.starts_with(&lazy)) {
+        let name = &row.name[beginning.len()..];
         let micros = spread::number(row.engine.median);
-        println!("The crown's question, {}: {micros} µs.", row.name);
+        println!("The crown's question {place}, {name}: {micros} µs.");
     }
-    println!("  One role check of a general role-only library took {ROLE_CHECK} µs.");
 }

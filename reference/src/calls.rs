@@ -1,14 +1,42 @@
-//! The two calls on bytes.
+//! The calls on bytes: over a record that the caller lends, and over a bundle alone.
 
 use crate::policy::Policy;
 use crate::question::Answer;
 
-/// "loads and writes. A refused bundle: its number and line. Else the writer's number and length."
-pub fn rewrite(bundle: &[u8], out: &mut [u8]) -> u64 {
-    let text = match Policy::load(bundle) {
-        Ok(policy) => policy.write(),
-        Err(refusal) => return packed(refusal.number, refusal.line),
-    };
+/// Loads a bundle into a lent record. A refused one returns "number, line" and leaves the "blank
+/// record".
+pub fn load(record: &mut Policy, bundle: &[u8]) -> u64 {
+    match Policy::load(bundle) {
+        Ok(policy) => {
+            *record = policy;
+            packed(0, 0)
+        }
+        Err(refusal) => {
+            *record = Policy::blank();
+            packed(refusal.number, refusal.line)
+        }
+    }
+}
+
+/// "answers each call in turn, on the record that the calls before it left", here a lent one; "As
+/// many calls are answered as are whole in calls and have room in answers; bytes past them stay."
+pub fn answer(record: &mut Policy, calls: &[u8], answers: &mut [u8]) -> u64 {
+    let mut count = 0;
+    for (call, place) in calls.chunks_exact(4).zip(answers.chunks_exact_mut(5)) {
+        let answer = answer_one(record, call[0], call[1], call[2], call[3]);
+        place.copy_from_slice(&octets(answer));
+        count += 1;
+    }
+    packed(0, count)
+}
+
+/// Writes a lent record: "Success is number 0, with ... the length"; 18 with the "length needed", 19
+/// with "length 0", both leave the buffer; "bytes past the end stay".
+pub fn write(record: &Policy, out: &mut [u8]) -> u64 {
+    if !record.is_loadable() {
+        return packed(19, 0);
+    }
+    let text = record.write();
     match out.get_mut(..text.len()) {
         Some(place) => {
             place.copy_from_slice(&text);
@@ -18,32 +46,35 @@ pub fn rewrite(bundle: &[u8], out: &mut [u8]) -> u64 {
     }
 }
 
-/// "loads, then answers each call in turn on the record that the calls before it left"; "As many
-/// calls are answered as are whole in `calls` and fit into `answers`; bytes past them stay."
-pub fn replay(bundle: &[u8], calls: &[u8], answers: &mut [u8]) -> u64 {
-    let mut policy = match Policy::load(bundle) {
-        Ok(policy) => policy,
-        Err(refusal) => return packed(refusal.number, 0),
-    };
-    let mut count = 0;
-    for (call, place) in calls.chunks_exact(4).zip(answers.chunks_exact_mut(5)) {
-        let answer = answer(&mut policy, call[0], call[1], call[2], call[3]);
-        place.copy_from_slice(&octets(answer));
-        count += 1;
+/// "Loads a bundle and writes it again into out. A bundle that is refused: its number (1 to 9) and
+/// the line; out stays."
+pub fn rewrite(bundle: &[u8], out: &mut [u8]) -> u64 {
+    let mut record = Policy::blank();
+    match load(&mut record, bundle) {
+        0 => write(&record, out),
+        refused => refused,
     }
-    packed(0, count)
+}
+
+/// "Loads a bundle, then answers each call in turn"; "for a bundle that is refused its number, and
+/// no answers."
+pub fn replay(bundle: &[u8], calls: &[u8], answers: &mut [u8]) -> u64 {
+    match Policy::load(bundle) {
+        Ok(mut record) => answer(&mut record, calls, answers),
+        Err(refusal) => packed(refusal.number, 0),
+    }
 }
 
 /// "kind (0 add, 1 remove, 2 eager, 3 lazy, 4 liberal, 5 strict), then (label, from, to) or
 /// (method, object, requestor)"; "A kind above 5 is answered with number 4 and changes nothing."
-fn answer(policy: &mut Policy, kind: u8, x: u8, y: u8, z: u8) -> Answer {
+fn answer_one(record: &mut Policy, kind: u8, x: u8, y: u8, z: u8) -> Answer {
     match kind {
-        0 => plain(policy.add_edge(x, y, z), 0),
-        1 => plain(policy.remove_edge(x, y, z), 0),
-        2 => policy.ask_eager(x, y, z),
-        3 => policy.ask_lazy(x, y, z),
-        4 => yes_or_no(policy.liberal(x, y, z)),
-        5 => yes_or_no(policy.strict(x, y, z)),
+        0 => plain(record.add_edge(x, y, z), 0),
+        1 => plain(record.remove_edge(x, y, z), 0),
+        2 => record.ask_eager(x, y, z),
+        3 => record.ask_lazy(x, y, z),
+        4 => yes_or_no(record.liberal(x, y, z)),
+        5 => yes_or_no(record.strict(x, y, z)),
         _ => plain(4, 0),
     }
 }

@@ -4,8 +4,12 @@ use crate::kind::MOST_EDGES;
 use crate::policy::{Memo, Policy};
 
 impl Policy {
-    /// "Adding an edge hands back the record with one edge more"; "add 10, 11, 13".
+    /// "Adding an edge hands back the record with one edge more"; "19 comes first, then: add 10,
+    /// 11, 13".
     pub fn add_edge(&mut self, label: u8, from: u8, to: u8) -> u8 {
+        if !self.is_loadable() {
+            return 19;
+        }
         if !self.edge_in_range(label, from, to) {
             return 10;
         }
@@ -19,8 +23,11 @@ impl Policy {
         self.empty_memo()
     }
 
-    /// "removing, with one fewer"; "remove 10, 12".
+    /// "removing, with one fewer"; "19 comes first, then: ... remove 10, 12".
     pub fn remove_edge(&mut self, label: u8, from: u8, to: u8) -> u8 {
+        if !self.is_loadable() {
+            return 19;
+        }
         if !self.edge_in_range(label, from, to) {
             return 10;
         }

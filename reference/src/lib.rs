@@ -1,8 +1,8 @@
 //! An access engine for dental laboratories: relations, grounds and grants.
 //!
 //! Every function says in a comment which sentence of the contract it follows.
-//! A policy is only ever blank, loaded, or edited from one of these, so it is
-//! always one that some bundle loads to: number 19 never arises here.
+//! A record is zeroed before its first load; from then on it is blank, loaded, or
+//! edited from one of these. So number 19 arises on a zeroed one alone.
 
 mod body;
 mod calls;
@@ -18,7 +18,7 @@ mod question;
 mod relation;
 mod write;
 
-pub use calls::{replay, rewrite};
+pub use calls::{answer, load, replay, rewrite, write};
 pub use load::Refusal;
 pub use policy::Policy;
 pub use question::Answer;

@@ -63,6 +63,14 @@ impl Policy {
     pub fn blank() -> Policy {
         Policy {
             objects: 1,
+            ..Policy::zeroed()
+        }
+    }
+
+    /// A record that nothing was loaded into yet: zero everywhere.
+    pub fn zeroed() -> Policy {
+        Policy {
+            objects: 0,
             users: BTreeMap::new(),
             edges: BTreeSet::new(),
             formulas: Vec::new(),
@@ -74,6 +82,12 @@ impl Policy {
             methods: Vec::new(),
             memo: Memo::default(),
         }
+    }
+
+    /// Number 19 is the opposite, "no bundle loads to this record": "object count N (1 to 255)".
+    /// Loading, edits and questions leave nothing else that a bundle could not say.
+    pub(crate) fn is_loadable(&self) -> bool {
+        self.objects >= 1
     }
 
     /// "Objects are 0 to N-1."

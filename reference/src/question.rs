@@ -25,8 +25,12 @@ impl Policy {
         self.ask(method, object, requestor, Policy::lazy_set)
     }
 
-    /// "questions 14, 15, 16", the same for liberal and strict; otherwise the method named.
+    /// "19 comes first, then: ... questions 14, 15, 16", the same for liberal and strict; otherwise
+    /// the method named.
     pub(crate) fn checked(&self, method: u8, object: u8, requestor: u8) -> Result<Method, u8> {
+        if !self.is_loadable() {
+            return Err(19);
+        }
         let method = *self.methods.get(usize::from(method)).ok_or(14)?;
         if !self.is_object(object) {
             return Err(15);

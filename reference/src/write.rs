@@ -5,7 +5,8 @@ use crate::line;
 use crate::policy::Policy;
 
 impl Policy {
-    /// "The writer puts the lines in the order above"; "The memo isn't written."
+    /// "The writer puts the lines in the order above"; "The memo isn't written." The record is one
+    /// that some bundle loads to.
     pub fn write(&self) -> Vec<u8> {
         let mut lines = self.earlier_lines();
         lines.push(end_line(&lines));

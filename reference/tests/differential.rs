@@ -27,8 +27,14 @@ mod engine;
 mod formulas;
 #[path = "differential/frame.rs"]
 mod frame;
+#[path = "differential/lent.rs"]
+mod lent;
 #[path = "differential/limits.rs"]
 mod limits;
+#[path = "differential/outcome.rs"]
+mod outcome;
+#[path = "differential/parts.rs"]
+mod parts;
 #[path = "differential/policy.rs"]
 mod policy;
 #[path = "differential/random.rs"]
@@ -42,6 +48,8 @@ mod sizes;
 mod support;
 #[path = "differential/tally.rs"]
 mod tally;
+#[path = "differential/tally_lent.rs"]
+mod tally_lent;
 
 use random::{fresh_seed, Random};
 use std::process::ExitCode;

@@ -12,12 +12,18 @@ pub fn workloads() -> Vec<Workload> {
     let crown = support::crown_lines();
     vec![
         there_and_back("512 edges, at the start", &full, 0),
-        there_and_back("512 edges, in the middle", &full, last / 2),
+        in_the_middle("512 edges, in the middle", &full),
         there_and_back("512 edges, at the end", &full, last),
         Workload::calls("512 edges, refused", &full, refused(&full)),
-        there_and_back("crown, in the middle", &crown, 1),
+        in_the_middle("crown, in the middle", &crown),
         Workload::calls("crown, refused", &crown, refused(&crown)),
     ]
+}
+
+/// The edge in the middle is added and removed.
+pub fn in_the_middle(name: &str, lines: &Lines) -> Workload {
+    let last = of_kind(lines, 3).len() - 1;
+    there_and_back(name, lines, last / 2)
 }
 
 /// The objects and edges of the full policy, without the rest, which edits leave alone.

@@ -24,11 +24,14 @@ pub struct Longest {
 }
 
 impl Longest {
-    /// Asks the different questions of a workload one by one.
+    /// Asks the different questions of a workload one by one; those on lent records were among them.
     pub fn consider(&mut self, title: &str, workload: &Workload) {
         let Task::Answer(calls) = &workload.task else {
             return;
         };
+        if workload.lent {
+            return;
+        }
         let questions: BTreeSet<Call> = calls.cycle.iter().copied().collect();
         let questions = questions
             .into_iter()
@@ -50,8 +53,11 @@ impl Longest {
         (micros, number)
     }
 
-    /// Says which one it was.
+    /// Says which one it was, if any was asked.
     pub fn print(&self) {
+        if self.asked == 0 {
+            return;
+        }
         let (asked, micros, place) = (self.asked, number(self.micros), &self.place);
         let verdict = if self.micros <= GOAL { "met" } else { "missed" };
         println!(

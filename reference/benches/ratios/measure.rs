@@ -1,6 +1,7 @@
 //! Rounds in which both implementations take turns.
 
-use crate::run::{Run, ENGINE, REFERENCE};
+use crate::run::Run;
+use crate::side::{ENGINE, REFERENCE};
 use crate::spread::Spread;
 use crate::workload::{Task, Workload};
 

@@ -15,17 +15,32 @@ const SLOW: usize = 100;
 
 /// The crown's questions, with the memo's help and without it.
 pub fn crown() -> Vec<Workload> {
-    let lines = support::crown_lines();
     let mut workloads = Vec::new();
     for (kind, name) in QUESTIONS {
         if matches!(kind, LAZY | EAGER) {
-            let name = format!("{name}, pair repeated");
-            workloads.push(Workload::calls(&name, &lines, repeated(kind)));
+            workloads.push(crown_repeated(name, kind));
         }
-        let name = format!("{name}, pairs alternating");
-        workloads.push(Workload::calls(&name, &lines, alternating(kind)));
+        workloads.push(crown_alternating(name, kind));
     }
     workloads
+}
+
+/// The crown's lazy questions alone, under names that begin otherwise.
+pub fn crown_lazy(beginning: &str) -> [Workload; 2] {
+    let name = format!("{beginning}lazy");
+    [crown_repeated(&name, LAZY), crown_alternating(&name, LAZY)]
+}
+
+/// The crown's questions where the memo helps.
+fn crown_repeated(name: &str, kind: u8) -> Workload {
+    let name = format!("{name}, pair repeated");
+    Workload::calls(&name, &support::crown_lines(), repeated(kind))
+}
+
+/// The crown's questions where it does not.
+fn crown_alternating(name: &str, kind: u8) -> Workload {
+    let name = format!("{name}, pairs alternating");
+    Workload::calls(&name, &support::crown_lines(), alternating(kind))
 }
 
 /// Half the calls by Ana, then half by Ben, methods in turn.
@@ -47,6 +62,11 @@ fn alternating(kind: u8) -> Vec<Call> {
 pub fn full() -> Vec<Workload> {
     let lines = bundles::full();
     QUESTIONS.map(|kind| full_kind(&lines, kind)).into()
+}
+
+/// The lazy questions on the full policy alone, under a name that begins otherwise.
+pub fn full_lazy(beginning: &str) -> Workload {
+    full_kind(&bundles::full(), (LAZY, &format!("{beginning}lazy")))
 }
 
 /// Random questions of one kind: few where the reference weighs every set.

@@ -1,35 +1,18 @@
 //! One implementation at work on one workload.
 
 use crate::clock;
-use crate::engine;
+use crate::side::{Lent, Side};
 use crate::workload::{Task, Workload};
 use std::hint::black_box;
 
 /// Work is repeated until so many microseconds have passed.
 const LEAST: f64 = 10_000.0;
 
-/// The two functions on bytes that each implementation has.
-pub struct Side {
-    rewrite: fn(&[u8], &mut [u8]) -> u64,
-    replay: fn(&[u8], &[u8], &mut [u8]) -> u64,
-}
-
-/// The engine, through its C functions.
-pub const ENGINE: Side = Side {
-    rewrite: engine::rewrite,
-    replay: engine::replay,
-};
-
-/// The reference.
-pub const REFERENCE: Side = Side {
-    rewrite: reference::rewrite,
-    replay: reference::replay,
-};
-
-/// An implementation with its workload and the buffers lent to it.
+/// An implementation with its workload, and the record and buffers lent to it.
 pub struct Run<'a> {
     side: Side,
     workload: &'a Workload,
+    record: Box<dyn Lent>,
     calls: Vec<u8>,
     answers: Vec<u8>,
     out: Vec<u8>,
@@ -42,9 +25,12 @@ impl Run<'_> {
             Task::Answer(calls) => calls.cycle.repeat(times).concat(),
             _ => Vec::new(),
         };
+        let mut record = (side.record)();
+        record.load(&workload.bundle);
         Run {
             side,
             workload,
+            record,
             answers: vec![0; calls.len() / 4 * 5],
             out: vec![0; workload.bundle.len()],
             calls,
@@ -53,20 +39,26 @@ impl Run<'_> {
 
     /// The microseconds of the workload's task: of one loading, one writing or one call.
     pub fn round(&mut self) -> f64 {
-        match self.workload.task {
-            Task::Load => self.loading(),
-            Task::Write => self.beyond_loading(Run::write),
-            Task::Answer(_) => {
-                let count = self.calls.len() / 4;
-                self.beyond_loading(Run::answer) / count as f64
-            }
+        let count = (self.calls.len() / 4) as f64;
+        match (&self.workload.task, self.workload.lent) {
+            (Task::Load, false) => self.each(Run::load),
+            (Task::Write, false) => self.beyond_loading(Run::write),
+            (Task::Answer(_), false) => self.beyond_loading(Run::answer) / count,
+            (Task::Load, true) => self.each(Run::load_lent),
+            (Task::Write, true) => self.each(Run::write_lent),
+            (Task::Answer(_), true) => self.each(Run::answer_singly) / count,
         }
     }
 
     /// What the first calls are answered, and what is written, to be compared.
     pub fn results(&mut self, answers: usize) -> (u64, Vec<u8>, Vec<u8>) {
-        let written = self.write();
-        self.answer();
+        let written = if self.workload.lent {
+            self.answer_singly();
+            self.write_lent()
+        } else {
+            self.answer();
+            self.write()
+        };
         (written, self.out.clone(), self.answers[..answers].to_vec())
     }
 
@@ -85,13 +77,33 @@ impl Run<'_> {
         (self.side.replay)(&self.workload.bundle, &self.calls, &mut self.answers)
     }
 
-    /// The microseconds of one loading, over ever larger batches until enough time has passed.
-    fn loading(&mut self) -> f64 {
+    /// Loads into the lent record.
+    fn load_lent(&mut self) -> u64 {
+        self.record.load(&self.workload.bundle)
+    }
+
+    /// Writes the lent record.
+    fn write_lent(&mut self) -> u64 {
+        self.record.write(&mut self.out)
+    }
+
+    /// Answers all calls on the lent record, each by itself.
+    fn answer_singly(&mut self) -> u64 {
+        let calls = self.calls.chunks_exact(4);
+        let places = self.answers.chunks_exact_mut(5);
+        calls
+            .zip(places)
+            .map(|(call, place)| self.record.answer(call, place))
+            .sum()
+    }
+
+    /// The microseconds of one go, over ever larger batches until enough time has passed.
+    fn each(&mut self, work: fn(&mut Self) -> u64) -> f64 {
         let (mut goes, mut batch) = (0, 1);
         let start = clock::micros();
         loop {
             for _ in 0..batch {
-                black_box(black_box(&mut *self).load());
+                black_box(work(black_box(&mut *self)));
             }
             goes += batch;
             batch = goes;

@@ -17,7 +17,7 @@ const HIGHEST: u8 = 8;
 const HIGHEST_RUN: u8 = 4;
 
 /// The title of these rows.
-const TITLE: &str = "22 objects all joined, 484 edges, eager, pairs alternating";
+pub const TITLE: &str = "22 objects all joined, 484 edges, eager, pairs alternating";
 
 /// Measures each height; the reference's time above the last run is estimated by its growth.
 pub fn section(longest: &mut Longest) {

@@ -49,6 +49,8 @@ pub struct Workload {
     pub name: String,
     pub bundle: Vec<u8>,
     pub task: Task,
+    /// Whether it is done on a lent record, calls one at a time.
+    pub lent: bool,
 }
 
 impl Workload {
@@ -58,6 +60,7 @@ impl Workload {
             name: format!("loading {name}"),
             bundle: bundle.to_vec(),
             task: Task::Load,
+            lent: false,
         }
     }
 
@@ -67,6 +70,7 @@ impl Workload {
             name: format!("writing {name}"),
             bundle: bundle.to_vec(),
             task: Task::Write,
+            lent: false,
         }
     }
 
@@ -92,6 +96,12 @@ impl Workload {
                 engine,
                 reference,
             }),
+            lent: false,
         }
+    }
+
+    /// The same on a lent record.
+    pub fn lent(self) -> Workload {
+        Workload { lent: true, ..self }
     }
 }

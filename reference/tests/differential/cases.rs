@@ -49,6 +49,18 @@ fn any_valid(random: &mut Random) -> Case {
     valid(random, &sizes, kind)
 }
 
+/// A small valid bundle with few calls, to stand beside a case.
+pub fn beside(random: &mut Random) -> Case {
+    let sizes = Sizes::small(random);
+    let lines = policy(random, &sizes);
+    Case {
+        kind: "valid, beside a case".to_string(),
+        text: sealed_text(&lines),
+        calls: few_calls(random, &lines),
+        valid: Some(lines),
+    }
+}
+
 /// A valid bundle and a list of calls.
 fn valid(random: &mut Random, sizes: &Sizes, kind: &str) -> Case {
     let lines = policy(random, sizes);
@@ -110,7 +122,7 @@ fn base(random: &mut Random) -> Sizes {
     Sizes::rich(random)
 }
 
-/// A short list for a bundle that will mostly be refused.
+/// A short list, for a bundle that will mostly be refused or stands beside another one.
 fn few_calls(random: &mut Random, lines: &Lines) -> Vec<Call> {
     let length = random.below(6);
     Subject::of(lines).calls(random, length)

@@ -1,6 +1,23 @@
-//! The engine under comparison: the two C functions of `include/case_access.h`, on slices.
+//! The engine under comparison: the C functions of `include/case_access.h`, on slices.
+
+/// A record that the caller owns: octets that only the engine reads, aligned to 8.
+#[derive(Clone, PartialEq)]
+#[repr(C, align(8))]
+pub struct Record([u8; 5104]);
 
 extern "C" {
+    fn access_load(record: *mut Record, bundle: *const u8, bundle_length: usize) -> u64;
+
+    fn access_answer(
+        record: *mut Record,
+        calls: *const u8,
+        calls_length: usize,
+        answers: *mut u8,
+        answers_length: usize,
+    ) -> u64;
+
+    fn access_write(record: *const Record, out: *mut u8, out_length: usize) -> u64;
+
     fn access_rewrite(
         bundle: *const u8,
         bundle_length: usize,
@@ -16,6 +33,40 @@ extern "C" {
         answers: *mut u8,
         answers_length: usize,
     ) -> u64;
+}
+
+impl Record {
+    /// As a record must be before its first load.
+    pub fn zeroed() -> Record {
+        Record([0; 5104])
+    }
+}
+
+/// Loads a bundle into a lent record, as `reference::load` does.
+pub fn load(record: &mut Record, bundle: &[u8]) -> u64 {
+    // SAFETY: the record was zeroed once and then changed by the engine alone; the pointer comes
+    // with the length of the slice it is taken from.
+    unsafe { access_load(record, bundle.as_ptr(), bundle.len()) }
+}
+
+/// Answers calls on a lent record, as `reference::answer` does.
+pub fn answer(record: &mut Record, calls: &[u8], answers: &mut [u8]) -> u64 {
+    // SAFETY: as above.
+    unsafe {
+        access_answer(
+            record,
+            calls.as_ptr(),
+            calls.len(),
+            answers.as_mut_ptr(),
+            answers.len(),
+        )
+    }
+}
+
+/// Writes a lent record, as `reference::write` does.
+pub fn write(record: &Record, out: &mut [u8]) -> u64 {
+    // SAFETY: as above.
+    unsafe { access_write(record, out.as_mut_ptr(), out.len()) }
 }
 
 /// Loads a bundle and writes it again, as `reference::rewrite` does.

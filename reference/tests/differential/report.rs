@@ -1,18 +1,21 @@
 //! What is printed of a difference: all that is needed to look into it by hand.
 
 use crate::cases::Case;
-use crate::compare::{Difference, Outcome};
+use crate::outcome::{Difference, Outcome, Step};
 
-/// Prints the seed, the case and both results.
+/// Prints the seed, the case, what was done before and both results.
 pub fn print(seed: u64, number: usize, case: &Case, difference: &Difference) {
     println!("\nDIFFERENCE in case {number} of seed {seed:#018X}");
     println!("{}: {}", case.kind, difference.what);
     println!("\nbundle of {} bytes:", case.text.len());
     print_text(&case.text);
     println!("\ncalls: {:?}", case.calls);
-    print_outcome("reference", &difference.reference, difference);
-    print_outcome("engine", &difference.engine, difference);
-    let kept = difference.reference.guards() == difference.engine.guards();
+    difference.steps.iter().for_each(print_step);
+    for (name, outcome) in &difference.sides {
+        print_outcome(name, outcome, difference.of_answers());
+    }
+    let [(_, first), (_, second)] = &difference.sides;
+    let kept = first.guards() == second.guards();
     println!("\nbytes around the buffer are the same in both: {kept}");
 }
 
@@ -23,11 +26,26 @@ fn print_text(text: &[u8]) {
     }
 }
 
+/// Prints one thing that was done with the lent record.
+fn print_step(step: &Step) {
+    match step {
+        Step::Load(text) => {
+            println!("\nlent record: load of {} bytes:", text.len());
+            print_text(text);
+        }
+        Step::Answer(calls, room) => {
+            let calls: Vec<&[u8]> = calls.chunks(4).collect();
+            println!("\nlent record: answer into {room} bytes: {calls:?}");
+        }
+        Step::Write(room) => println!("\nlent record: write into {room} bytes"),
+    }
+}
+
 /// Prints one result: answers as numbers, five by five, and what was written as text.
-fn print_outcome(name: &str, outcome: &Outcome, difference: &Difference) {
+fn print_outcome(name: &str, outcome: &Outcome, of_answers: bool) {
     let value = outcome.value & u64::from(u32::MAX);
     println!("\n{name}: number {}, value {value}", outcome.number());
-    if difference.of_replay {
+    if of_answers {
         let answers: Vec<&[u8]> = outcome.buffer().chunks(5).collect();
         println!("answers: {answers:?}");
     } else {

@@ -4,12 +4,13 @@ use crate::calls::Call;
 use crate::limits::reached;
 use crate::policy::Lines;
 use crate::sizes::LIMITS;
+use crate::tally_lent::{Counts, Event};
 
 /// Each refusal must occur at least so often in a run.
 const LEAST: u64 = 50;
 
 /// The causes of the contract's table, by number.
-const CAUSES: [&str; 18] = [
+const CAUSES: [&str; 19] = [
     "line empty, odd, other character, no final 0A",
     "under 3 octets, or length octet wrong",
     "line sum not zero",
@@ -28,6 +29,7 @@ const CAUSES: [&str; 18] = [
     "requestor isn't a user",
     "no set will do",
     "writer's buffer too short",
+    "no bundle loads to this record",
 ];
 
 /// The counts.
@@ -37,8 +39,8 @@ pub struct Tally {
     loaded: u64,
     lists: u64,
     calls: u64,
-    /// By number, 1 to 18.
-    refusals: [u64; 19],
+    /// By number, 1 to 19.
+    refusals: [u64; 20],
     unknown_kinds: u64,
     /// By kind, 0 add and 1 remove.
     edits: [u64; 2],
@@ -50,6 +52,7 @@ pub struct Tally {
     /// By kind, 0 liberal and 1 strict, then 0 no and 1 yes.
     predicates: [[u64; 2]; 2],
     limits: [u64; LIMITS.len()],
+    lent: Counts,
 }
 
 impl Tally {
@@ -69,6 +72,38 @@ impl Tally {
         if number == 18 {
             self.refused(number);
         }
+    }
+
+    /// Counts a number answered on a record that was never loaded.
+    pub fn unloadable(&mut self, number: u8) {
+        if number == 19 {
+            self.refused(number.into());
+        }
+    }
+
+    /// Counts what happened to a lent record.
+    pub fn lent(&mut self, event: Event) {
+        self.lent.add(event, true);
+    }
+
+    /// Counts a part of a list, with the room for its answers.
+    pub fn part(&mut self, calls: &[u8], room: usize) {
+        self.lent.add(Event::Part, true);
+        self.lent.add(Event::EmptyPart, calls.is_empty());
+        self.lent
+            .add(Event::PieceOfCall, !calls.len().is_multiple_of(4));
+        self.lent.add(Event::ShortRoom, room / 5 < calls.len() / 4);
+    }
+
+    /// Counts a write of a lent record.
+    pub fn write(&mut self, number: u64) {
+        self.lent.add(Event::Write, true);
+        self.lent.add(Event::WriteTooShort, number == 18);
+    }
+
+    /// Counts a write that gave another bundle than was loaded, if it did.
+    pub fn written_after(&mut self, edit: bool) {
+        self.lent.add(Event::WriteAfterEdit, edit);
     }
 
     /// Counts a refusal; 0 is none.
@@ -127,12 +162,12 @@ impl Tally {
         println!("{:>9}  were loaded", self.loaded);
         println!("{:>9}  lists of calls on loaded bundles, with", self.lists);
         println!("{:>9}  calls", self.calls);
-        println!("\nrefusals by number (19 cannot arise through this interface,");
-        println!("where every record comes from the loader)");
+        println!("\nrefusals by number (19: a lent record before its first load)");
         for (number, cause) in (1..).zip(CAUSES) {
             println!("{:>9}  {number:>2}  {cause}", self.refusals[number]);
         }
         self.print_answers();
+        self.lent.print();
         println!("\nvalid bundles by the limits they reach");
         for (name, count) in LIMITS.iter().zip(self.limits) {
             println!("{count:>9}  {name}");
@@ -161,12 +196,13 @@ impl Tally {
 
     /// What the run ought to have come across more often, or at all.
     pub fn gaps(&self) -> Vec<String> {
-        let rare = (1..=18).filter(|&number| self.refusals[number] < LEAST);
+        let rare = (1..=19).filter(|&number| self.refusals[number] < LEAST);
         let mut gaps: Vec<String> = rare
             .map(|number| format!("number {number} occurred fewer than {LEAST} times"))
             .collect();
         let missed = LIMITS.iter().zip(self.limits).filter(|limit| limit.1 == 0);
         gaps.extend(missed.map(|(name, _)| format!("no bundle reached: {name}")));
+        gaps.extend(self.lent.gaps());
         gaps
     }
 }

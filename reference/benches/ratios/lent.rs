@@ -1,0 +1,21 @@
+//! A lent record: loading into it, writing from it, and calls one at a time.
+
+use crate::bundles;
+use crate::edits;
+use crate::questions;
+use crate::support;
+use crate::workload::Workload;
+
+/// The title of these rows.
+pub const TITLE: &str = "lent record: each call by itself, with its test for 19";
+
+/// Loading and writing, then questions and edits on the crown and on the full policy.
+pub fn workloads() -> Vec<Workload> {
+    let (crown, full) = (support::crown_lines(), bundles::full());
+    let mut workloads = bundles::workloads();
+    workloads.extend(questions::crown_lazy("crown, "));
+    workloads.push(edits::in_the_middle("crown, edit", &crown));
+    workloads.push(questions::full_lazy("full policy, "));
+    workloads.push(edits::in_the_middle("full policy, edit", &full));
+    workloads.into_iter().map(Workload::lent).collect()
+}
