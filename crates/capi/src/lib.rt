@@ -1,4 +1,5 @@
 // The C interface: slices are a pointer and a length; a number and a value come back in one number, number · 2^32 + value.
+// The functions here keep nothing between calls; those of `lent` keep a record that the caller owns.
 
 ghost use mathlib.Core.Path.{_≡_};
 ghost use Rattle.reading.specs.Loading.{load};

@@ -1,14 +1,14 @@
 -- Calls given in parts are answered as in one list, and leave the same record; so demand 3 holds of them at every point.
-use Prim.Native.Nat.{ℕ, zero, suc, _+_, _*_, _/_, _≤_, _<_, min}
+use Prim.Native.Nat.{ℕ, zero, suc, _+_, _*_, _≤_, _<_}
 use mathlib.Core.Path.{_≡_, refl, sym, _∙_, ap, subst}
 use mathlib.Core.List.{List, [], _∷_, _++_, append-assoc, append-nil}
 use native.Mathlib.Omega.{arith}
-use lib.ListN.{length, take, drop, getD, length-append, take-append-drop, List·getD-append}
+use lib.ListN.{length, take, drop, length-append, take-append-drop, List·getD-append}
 use lib.Seq.{getD-append-add, length-take-le, drop-append-add, drop-length}
 use Rattle.common.specs.Lists.{at}
 use Rattle.policy.specs.declared.Record.{Record}
 use Rattle.reading.specs.Loading.{load}
-use Rattle.history.specs.Book.{Call, bookAnswer, numberAndSet, engineAfter}
+use Rattle.history.specs.Book.{Call, numberAndSet, engineAfter}
 use Rattle.history.specs.Demand3.{CallHolds}
 use Rattle.replay.specs.Replay.{ListedCall, call, listedCallOf, listedCallAt, answerTo, answerOctets, leftAfter, replies}
 use Rattle.replay.specs.Replay.{answeredCount, bufferAfter}
@@ -144,6 +144,7 @@ unfolding partsCalls partsCount
 whole-parts [] = refl
 whole-parts (p ∷ ps) = omega (arith, length-append (take (4 * countIn p) (p .calls)) (partsCalls ps), whole-calls p, whole-parts ps)
 
+-- the parts leave the record, and get the answers, of the one list
 pub parts-left : (r : Record) (ps : List Part) → leftAfterParts r ps ≡ leftAfter r (partsCalls ps) (partsCount ps)
 unfolding leftAfterParts partsCalls partsCount leftAfter
 parts-left r [] = refl
@@ -164,7 +165,8 @@ parts-replies r (p ∷ ps) =
 pub parts-engine : (r : Record) (ps : List Part) → leftAfterParts r ps ≡ engineAfter r (callsBefore (partsCalls ps) (partsCount ps))
 parts-engine r ps = parts-left r ps ∙ left-is r (partsCalls ps) (partsCount ps)
 
--- demand 3 holds of any parts
+-- ---- a record just loaded: demand 3 holds of any parts
+
 module _ (text : List ℕ) (loads : load text .number ≡ 0) (ps : List Part) where
   abbrev b : Record
   b = load text .rules
@@ -179,7 +181,8 @@ module _ (text : List ℕ) (loads : load text .number ≡ 0) (ps : List Part) wh
     same-call : listedCallAt (partsCalls ps ++ p .calls) (partsCount ps + i) ≡ listedCallAt (p .calls) i
     same-call = later-call (partsCalls ps) (p .calls) (partsCount ps) (whole-parts ps) i
 
-    point : i < countIn p → (c : Call) → listedCallAt (p .calls) i ≡ call c → PointHolds text loads ps p i c
+    point : i < countIn p → (c : Call) → listedCallAt (p .calls) i ≡ call c
+        → PointHolds text loads ps p i c (bufferAfter (leftAfterParts b ps) (p .calls) (p .buffer))
     point l c e =
         let one = partsCalls ps ++ p .calls in
         let n = partsCount ps + i in

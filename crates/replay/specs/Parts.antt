@@ -51,14 +51,14 @@ module _ (text : List ℕ) (loads : load text .number ≡ 0) (ps : List Part) wh
     abbrev pub bookAt : Book
     bookAt = book text loads (partsCalls ps ++ p .calls) (partsCount ps + i)
 
-  -- what demand 3 says of the call; number and set are the book's; and the octets of the answer stand in the buffer
-  pub record PointHolds (p : Part) (i : ℕ) (c : Call) : Type 0 where
+  -- what demand 3 says of the call; number and set are the book's; and the octets of its answer stand in the buffer `after`
+  pub record PointHolds (p : Part) (i : ℕ) (c : Call) (after : List ℕ) : Type 0 where
     pub holds : CallHolds b (bookAt p i) (recordAt p i) c
     pub answers : numberAndSet (answerTo (recordAt p i) (call c)) ≡ bookAnswer b (bookAt p i) c
-    pub octets : take 5 (drop (5 * i) (bufferAfter (leftAfterParts b ps) (p .calls) (p .buffer)))
-        ≡ answerOctets (answerTo (recordAt p i) (call c))
+    pub octets : take 5 (drop (5 * i) after) ≡ answerOctets (answerTo (recordAt p i) (call c))
 
   -- the record that the parts leave is the engine's after all their calls, and every call of a part given next holds
   pub record PartsHold : Type 0 where
     pub left : leftAfterParts b ps ≡ engineAfter b (callsBefore (partsCalls ps) (partsCount ps))
-    pub next : (p : Part) (i : ℕ) → i < countIn p → (c : Call) → listedCallAt (p .calls) i ≡ call c → PointHolds p i c
+    pub next : (p : Part) (i : ℕ) → i < countIn p → (c : Call) → listedCallAt (p .calls) i ≡ call c
+        → PointHolds p i c (bufferAfter (leftAfterParts b ps) (p .calls) (p .buffer))
