@@ -6,6 +6,7 @@ ghost use Rattle.common.specs.Limits.{mostPrincipals};
 ghost use Rattle.common.specs.Sets.{member};
 ghost use Rattle.policy.specs.declared.Record as records;
 ghost use Rattle.policy.specs.Loadable as validity;
+ghost use Rattle.policy.specs.Typed.{Typed};
 ghost use Rattle.justification.specs.Justification as justifications;
 ghost use Rattle.search.specs.Answers.{foundValues};
 ghost use Rattle.justification.specs.Masked.{Masked, leastValues};
@@ -78,7 +79,7 @@ fn refused(number: u8, rules: Record) -> Answer
 
 // The eager question.
 pub fn ask_eager(rules: Record, question: Question) -> Answer
-    ensures { λ r. ⌜ r ≡ access.eager rules question ⌝ }
+    ensures { λ r. ⌜ (r ≡ access.eager rules question) × Typed rules ⌝ }
 {
     let loads = policy::loadable::loadable(rules);
     ask_eager_given(rules, loads, question)
@@ -119,7 +120,7 @@ fn least_among(masks: Masks, allowed: u32) -> Found
 
 // The lazy question.
 pub fn ask_lazy(rules: Record, question: Question) -> Answer
-    ensures { λ r. ⌜ r ≡ access.lazy rules question ⌝ }
+    ensures { λ r. ⌜ (r ≡ access.lazy rules question) × Typed rules ⌝ }
 {
     let loads = policy::loadable::loadable(rules);
     ask_lazy_given(rules, loads, question)

@@ -12,7 +12,7 @@ use Rattle.policy.specs.declared.Record.{Record}
 use Rattle.policy.specs.Loadable.{loadable}
 use Rattle.bundle.specs.declared.Written.{Written}
 use Rattle.bundle.specs.Writing.{bundleOf, lengthNeeded, measured, written, bufferAfter, writeRefusal}
-use Rattle.bundle.specs.Typed.{Typed}
+use Rattle.policy.specs.Typed.{Typed}
 use Rattle.bundle.specs.WriterParts.{Writes}
 
 module _ (r : Record) where

@@ -1,4 +1,3 @@
-pub mod Fields
 pub mod Answers
 pub mod WrittenTables
 pub mod Whole

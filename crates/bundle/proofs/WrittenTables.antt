@@ -17,7 +17,7 @@ use Rattle.writing.specs.declared.Draft.{Draft}
 use Rattle.writing.specs.Drafts.{RoomFor, Put, pairLine, tripleLine, userLine, demarcationLine, methodLine}
 use Rattle.writing.specs.DraftLaws.{put-join, put-length}
 use Rattle.bundle.specs.Writing.{lineOctets, tableLines, ruleLines}
-use Rattle.bundle.specs.Typed.{Typed}
+use Rattle.policy.specs.Typed.{Typed}
 use Rattle.bundle.specs.WriterParts.{Room}
 use Rattle.bundle.specs.BodyLaws.{table-lines}
 use Rattle.bundle.specs.LengthLaws.{lineSize, table-count, table-size, rest-count, rest-size}

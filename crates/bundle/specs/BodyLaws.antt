@@ -15,9 +15,10 @@ use Rattle.octets.specs.WritingLaws.{Octets, octets-append, octets-take, length
 use Rattle.policy.specs.declared.Record.{Record}
 use Rattle.policy.specs.Table.{Kind, head, user, edge, formula, demarcation, hierarchy, principal, exclusion, prerequisite, method, end}
 use Rattle.policy.specs.Table.{code, count, row}
-use Rattle.reading.specs.Body.{widths, values, numbers}
+use Rattle.policy.specs.Table.{widths}
+use Rattle.reading.specs.Body.{values, numbers}
 use Rattle.bundle.specs.Writing.{body, lineOctets, tableLines}
-use Rattle.bundle.specs.Typed.{Fit, Typed}
+use Rattle.policy.specs.Typed.{Fit, Typed}
 use Rattle.reading.specs.FramedLaws.{Fine}
 
 -- ---- bodies

@@ -15,7 +15,7 @@ use Rattle.policy.specs.Table.{code, kinds, count, room, row}
 use Rattle.policy.specs.Loadable.{loadable}
 use Rattle.policy.specs.LoadableLaws.{loadable-table, table-few}
 use Rattle.writing.specs.DraftLaws.{text-append, text-size}
-use Rattle.reading.specs.Body.{widths}
+use Rattle.policy.specs.Table.{widths}
 use Rattle.bundle.specs.Writing.{body, lineOctets, tableLines, ruleLines, bundleOf}
 use Rattle.bundle.specs.BodyLaws.{length-body, table-lines}
 

@@ -1,5 +1,4 @@
 pub mod Writing
-pub mod Typed
 pub mod WriterParts
 pub mod CutLaws
 pub mod BodyLaws

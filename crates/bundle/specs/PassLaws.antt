@@ -14,7 +14,7 @@ use Rattle.policy.specs.Loadable.{loadable}
 use Rattle.policy.specs.LoadableLaws.{loadable-table, table-few}
 use Rattle.reading.specs.Body.{numbers}
 use Rattle.bundle.specs.Writing.{tableLines, ruleLines}
-use Rattle.bundle.specs.Typed.{Typed}
+use Rattle.policy.specs.Typed.{Typed}
 use Rattle.reading.specs.Loading.{Reading, atTop, endWrong, afterLine}
 use Rattle.reading.specs.LoadingLaws.{Taken}
 use Rattle.bundle.specs.BodyLaws.{line-kind, line-size, rowLine, row-numbers, table-lines}

@@ -14,7 +14,8 @@ use Rattle.octets.specs.Line.{Framed, octets, kindOctet, bodyOf, total, totals}
 use Rattle.policy.specs.Table.{Kind, head, code, isKind, kindOf, count}
 use Rattle.policy.specs.TableLaws.{kind-of-code}
 use Rattle.policy.specs.Rows.{rowCauses, rowRefusal}
-use Rattle.reading.specs.Body.{widths, numbers}
+use Rattle.policy.specs.Table.{widths}
+use Rattle.reading.specs.Body.{numbers}
 use Rattle.reading.specs.Loading.{Reading, atTop, misplaced, endWrong, lineRefusal, afterLine, notLoaded, read}
 use Rattle.reading.specs.LoadingLaws.{Taken}
 

@@ -20,7 +20,7 @@ use Rattle.reading.specs.Loading.{load}
 use Rattle.reading.specs.LoadingLaws.{as-loaded}
 use Rattle.bundle.specs.declared.Written.{Written}
 use Rattle.bundle.specs.Writing.{bundleOf, lengthNeeded, written, writeRefusal, bufferAfter}
-use Rattle.bundle.specs.Typed.{Typed}
+use Rattle.policy.specs.Typed.{Typed}
 use Rattle.bundle.specs.WriterParts.{Writes}
 use Rattle.bundle.specs.WriteLoad.{write-load}
 use Rattle.bundle.specs.LoadWrite.{load-write}

@@ -10,7 +10,7 @@ use Rattle.octets.specs.LineLaws.{lines-none, lines-cons}
 use Rattle.octets.specs.WritingLaws.{Octets, framed-octets, length-framed, reads-back, rest-follows}
 use Rattle.policy.specs.Table.{Kind, head, user, edge, formula, demarcation, hierarchy, principal, exclusion, prerequisite, method, end}
 use Rattle.policy.specs.Table.{code}
-use Rattle.reading.specs.Body.{widths}
+use Rattle.policy.specs.Table.{widths}
 use Rattle.bundle.specs.Writing.{body, lineOctets}
 use Rattle.bundle.specs.BodyLaws.{length-body, octets-body}
 

@@ -11,7 +11,7 @@ use Rattle.policy.specs.Table.{Kind, end, kinds, count, row, emptied, withMemo}
 use Rattle.policy.specs.Loadable.{loadable}
 use Rattle.reading.specs.Loading.{atTop, read, load}
 use Rattle.bundle.specs.Writing.{tableLines, ruleLines, withEnd, bundleOf}
-use Rattle.bundle.specs.Typed.{Typed}
+use Rattle.policy.specs.Typed.{Typed}
 use Rattle.bundle.specs.BodyLaws.{rowLine, table-lines}
 use Rattle.bundle.specs.LengthLaws.{rooms, rules-few}
 use Rattle.bundle.specs.TextLaws.{Lines, lines-append, lines-table, line-of, lines-text, lines-total}

@@ -11,7 +11,7 @@ use Rattle.writing.specs.declared.Draft.{Draft}
 use Rattle.writing.specs.Drafts.{greatestTotal}
 use Rattle.bundle.specs.declared.Written.{Written}
 use Rattle.bundle.specs.Writing.{ruleLines, written, bufferAfter}
-use Rattle.bundle.specs.Typed.{Typed}
+use Rattle.policy.specs.Typed.{Typed}
 
 -- kinds 01 to 05, and 06 to 0A
 abbrev pub graphLines : Record → List (List ℕ)

@@ -13,7 +13,7 @@ use Rattle.policy.specs.declared.Record.{Record}
 use Rattle.policy.specs.Table.{Kind, end, code, kinds, rows}
 use Rattle.policy.specs.Loadable.{loadable}
 use Rattle.bundle.specs.declared.Written.{Written}
-use Rattle.reading.specs.Body.{widths}
+use Rattle.policy.specs.Table.{widths}
 
 -- numbers as octets, by how many octets each has
 abbrev pub body : List ℕ → List ℕ → List ℕ

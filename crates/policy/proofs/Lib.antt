@@ -2,3 +2,4 @@ mod Shifts
 mod EdgeRows
 mod Columns
 mod Answers
+mod Fields

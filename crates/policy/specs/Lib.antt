@@ -11,6 +11,7 @@ pub mod RisingLaws
 pub mod LoadableLaws
 pub mod RoomLaws
 pub mod TableLaws
+pub mod Typed
 pub mod HeightLaws
 pub mod GrowthLaws
 pub mod EdgeLaws

@@ -77,6 +77,20 @@ columns prerequisite r = r .prerequisites ∷ r .dependents ∷ []
 columns method r = r .«method_forms» ∷ r .«method_privileges» ∷ []
 columns end r = []
 
+-- the numbers of a body, by how many octets each has
+abbrev pub widths : Kind → List ℕ
+widths head = 1 ∷ 1 ∷ []
+widths user = 1 ∷ 2 ∷ []
+widths edge = 1 ∷ 1 ∷ 1 ∷ []
+widths formula = 1 ∷ 1 ∷ 1 ∷ []
+widths demarcation = 8 ∷ []
+widths hierarchy = 1 ∷ 1 ∷ []
+widths principal = 1 ∷ 1 ∷ []
+widths exclusion = 1 ∷ 1 ∷ []
+widths prerequisite = 1 ∷ 1 ∷ []
+widths method = 1 ∷ 8 ∷ []
+widths end = 2 ∷ 4 ∷ []
+
 -- how many lines the table of a kind has room for
 abbrev pub room : Kind → ℕ
 room head = 1

@@ -5,7 +5,7 @@ ghost use mathlib.Core.Bool.{true, _||_};
 ghost use Rattle.closure.specs.Closure.{circular};
 ghost use Rattle.policy.specs.Table.{Kind, rows, hierarchy, prerequisite};
 ghost use Rattle.policy.specs.Loadable.{tableLoads};
-ghost use Rattle.policy.specs.Loadable as spec;
+ghost use Rattle.policy.specs.Typed.{Tests};
 use crate::Record;
 
 // Whether the hierarchy or the prerequisites hold a circle, in a record whose tables load.
@@ -30,7 +30,7 @@ pub fn has_circles(rules: Record) -> bool
 
 // Every table loads, and neither the hierarchy nor the prerequisites hold a circle.
 pub fn loadable(rules: Record) -> bool
-    ensures { λ r. ⌜ r ≡ spec.loadable rules ⌝ }
+    ensures { λ r. ⌜ Tests rules r ⌝ }
 {
     let graph = tables::graph_loads(
         rules.objects,

@@ -10,6 +10,7 @@ ghost use Rattle.search.specs.Steps.{MetBy};
 ghost use Rattle.policy.specs.Table.{Kind};
 ghost use Rattle.policy.specs.Loadable.{tableLoads};
 ghost use Rattle.policy.specs.Loadable as validity;
+ghost use Rattle.policy.specs.Typed.{Typed};
 ghost use Rattle.justification.specs.Predicates.{isEnabled};
 ghost use Rattle.justification.specs.Predicates as spec;
 ghost use Rattle.justification.specs.MarkedSets.{Those};
@@ -83,7 +84,7 @@ pub fn enabled_of(rules: Record, question: Question, among: u32) -> u32
 
 // Whether all enabled principals together meet the guard, without constraints.
 pub fn liberal(rules: Record, question: Question) -> Verdict
-    ensures { λ r. ⌜ r ≡ spec.liberal rules question ⌝ }
+    ensures { λ r. ⌜ (r ≡ spec.liberal rules question) × Typed rules ⌝ }
 {
     let loads = policy::loadable::loadable(rules);
     liberal_given(rules, loads, question)
@@ -117,7 +118,7 @@ pub fn liberal_given(rules: Record, loads: bool, question: Question) -> Verdict
 
 // Whether one enabled principal alone meets the guard, without constraints.
 pub fn strict(rules: Record, question: Question) -> Verdict
-    ensures { λ r. ⌜ r ≡ spec.strict rules question ⌝ }
+    ensures { λ r. ⌜ (r ≡ spec.strict rules question) × Typed rules ⌝ }
 {
     let loads = policy::loadable::loadable(rules);
     strict_given(rules, loads, question)

@@ -11,7 +11,8 @@ use Rattle.octets.specs.LineLaws.{octet-at}
 use Rattle.octets.specs.Answers.{octetAt}
 use Rattle.octets.specs.Number.{number}
 use Rattle.policy.specs.Table.{Kind}
-use Rattle.reading.specs.Body.{widths, values, numbers}
+use Rattle.policy.specs.Table.{widths}
+use Rattle.reading.specs.Body.{values, numbers}
 use Rattle.reading.specs.KindLaws.{table-same}
 use Rattle.lines.specs.NextLine.{numberAt}
 

@@ -19,7 +19,8 @@ use Rattle.policy.specs.TableLaws.{kind-of-code}
 use Rattle.policy.specs.Rows.{rowCauses, rowRefusal}
 use Rattle.lines.proofs.FoundLine.{RefusedLine}
 use Rattle.lines.proofs.FoundLine.RefusedLine.{unframed, other-size}
-use Rattle.reading.specs.Body.{widths, numbers}
+use Rattle.policy.specs.Table.{widths}
+use Rattle.reading.specs.Body.{numbers}
 use Rattle.reading.specs.Loading.{Reading, misplaced, endWrong, lineRefusal, afterLine, notLoaded, read}
 
 -- ---- misplaced lines

@@ -24,7 +24,8 @@ use Rattle.lines.specs.NextLine.{noLine, refusedLine, nextOf}
 use Rattle.lines.specs.Judging.{CursorBound, movedPast}
 use Rattle.lines.proofs.FoundLine.{FoundLine, sum-most, other-kind, refused-line}
 use Rattle.reading.specs.declared.Stage.{Stage}
-use Rattle.reading.specs.Body.{widths, numbers}
+use Rattle.policy.specs.Table.{widths}
+use Rattle.reading.specs.Body.{numbers}
 use Rattle.reading.specs.Loading.{misplaced, lineRefusal, afterLine, notLoaded, read}
 use Rattle.reading.specs.Stages.{reading, loadedFrom, refusedAt, Begun, Ready, Reads}
 use Rattle.reading.proofs.OneLine.{misplaced-other, misplaced-below, well-placed, refused-row, read-not, read-on, body-length}

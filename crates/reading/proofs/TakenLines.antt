@@ -31,7 +31,8 @@ use Rattle.lines.proofs.JudgedLine.{Refuses, Takes}
 use Rattle.lines.proofs.JudgedLine.Refuses.{as-line, by-numbers}
 use Rattle.lines.proofs.FoundLine.{FoundLine, found-line}
 use Rattle.reading.specs.declared.Stage.{Stage}
-use Rattle.reading.specs.Body.{widths, numbers}
+use Rattle.policy.specs.Table.{widths}
+use Rattle.reading.specs.Body.{numbers}
 use Rattle.reading.specs.Stages.{refusedAt, ReadableKind, Ready, Reads}
 use Rattle.reading.proofs.AppendedAt.{appendedAt, appended-at}
 use Rattle.reading.proofs.Bodies.{fieldsAt, one-octet, two-octets, numbers-are}

@@ -6,22 +6,7 @@ use lib.ListN.{take, drop}
 use lib.Dec.{eqb}
 use Rattle.octets.specs.Line.{Framed, refused, octets, kindOctet, bodyOf}
 use Rattle.octets.specs.Number.{number}
-use Rattle.policy.specs.Table.{Kind, head, user, edge, formula, demarcation, hierarchy, principal, exclusion, prerequisite, method, end}
-use Rattle.policy.specs.Table.{code}
-
--- the numbers of a body, by how many octets each has
-abbrev pub widths : Kind → List ℕ
-widths head = 1 ∷ 1 ∷ []
-widths user = 1 ∷ 2 ∷ []
-widths edge = 1 ∷ 1 ∷ 1 ∷ []
-widths formula = 1 ∷ 1 ∷ 1 ∷ []
-widths demarcation = 8 ∷ []
-widths hierarchy = 1 ∷ 1 ∷ []
-widths principal = 1 ∷ 1 ∷ []
-widths exclusion = 1 ∷ 1 ∷ []
-widths prerequisite = 1 ∷ 1 ∷ []
-widths method = 1 ∷ 8 ∷ []
-widths end = 2 ∷ 4 ∷ []
+use Rattle.policy.specs.Table.{Kind, code, widths}
 
 -- octets as numbers of these widths
 abbrev pub values : List ℕ → List ℕ → List ℕ

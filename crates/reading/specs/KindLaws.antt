@@ -17,7 +17,8 @@ use Rattle.policy.specs.TableLaws as tables
 use Rattle.policy.specs.GrowthLaws.{blank-empty}
 use Rattle.policy.specs.RoomLaws.{room-left}
 use Rattle.reading.specs.declared.Loaded.{Loaded}
-use Rattle.reading.specs.Body.{widths, values, numbers, linesOf}
+use Rattle.policy.specs.Table.{widths}
+use Rattle.reading.specs.Body.{values, numbers, linesOf}
 use Rattle.reading.specs.Loading.{Reading, atTop, afterLine, read, load}
 use Rattle.reading.specs.LoadingLaws.{Taken, taken, Sound, sound-top, sound-more}
 use Rattle.reading.specs.FramedLaws.{Lines, lines-checked}

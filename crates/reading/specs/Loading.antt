@@ -14,7 +14,8 @@ use Rattle.policy.specs.declared.Record.{Record}
 use Rattle.policy.specs.Table.{Kind, head, hierarchy, prerequisite, end, code, isKind, count, rows, blank, appended, kindOf}
 use Rattle.policy.specs.Rows.{rowCauses}
 use Rattle.reading.specs.declared.Loaded.{Loaded}
-use Rattle.reading.specs.Body.{widths, numbers}
+use Rattle.policy.specs.Table.{widths}
+use Rattle.reading.specs.Body.{numbers}
 
 -- how many lines were read, the last one's kind octet, the plain sum of their octets, and what they say
 pub record Reading : Type 0 where

@@ -23,7 +23,8 @@ use Rattle.policy.specs.LoadableLaws.{loadable-from}
 use Rattle.policy.specs.TableLaws.{ColumnLengths, blank-loads, sized-blank, sized-appended, count-other}
 use Rattle.policy.specs.GrowthLaws.{tables-more, tables-first, blank-empty}
 use Rattle.reading.specs.declared.Loaded.{Loaded}
-use Rattle.reading.specs.Body.{widths, numbers}
+use Rattle.policy.specs.Table.{widths}
+use Rattle.reading.specs.Body.{numbers}
 use Rattle.reading.specs.Loading.{Reading, atTop, misplaced, endWrong, lineRefusal, afterLine, notLoaded, afterLastLine, read, load}
 
 -- ---- a line that is taken

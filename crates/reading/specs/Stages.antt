@@ -18,7 +18,7 @@ use Rattle.lines.specs.declared.Cursor.{Cursor}
 use Rattle.lines.specs.Judging.{mostLineSum, TableKind}
 use Rattle.reading.specs.declared.Loaded.{Loaded}
 use Rattle.reading.specs.declared.Stage.{Stage}
-use Rattle.reading.specs.Body.{widths}
+use Rattle.policy.specs.Table.{widths}
 use Rattle.reading.specs.Loading.{Reading, misplaced, notLoaded, read, load}
 
 abbrev pub reading : Stage → Reading

@@ -7,6 +7,7 @@ ghost use Prim.Native.Nat.{_+_, _/_, _≤_, min};
 ghost use lib.ListN.{length, take, drop};
 ghost use Rattle.octets.specs.Number.{inOctets};
 ghost use Rattle.policy.specs.Loadable as validity;
+ghost use Rattle.policy.specs.Typed.{Typed};
 ghost use Rattle.replay.specs.Replay.{listedCallOf, questionOf, editAnswer, verdictAnswer, answerTo};
 ghost use Rattle.replay.specs.Replay.{answeredCount, bufferAfter, replayed};
 use access::Answer;
@@ -61,7 +62,7 @@ fn question_of(a: u8, b: u8, c: u8) -> Question
 
 // Answers one call: 0 add, 1 remove, 2 eager, 3 lazy, 4 liberal, 5 strict; a kind above 5 is answered with 4.
 pub fn answer(rules: Record, kind: u8, a: u8, b: u8, c: u8) -> Answer
-    ensures { λ r. ⌜ r ≡ answerTo rules (listedCallOf kind a b c) ⌝ }
+    ensures { λ r. ⌜ (r ≡ answerTo rules (listedCallOf kind a b c)) × Typed rules ⌝ }
 {
     let loads = policy::loadable::loadable(rules);
     answer_given(rules, loads, kind, a, b, c)

@@ -7,10 +7,10 @@ loadable-requires : tie.Need-loadable-requires
 loadable-requires c κs = search needs
 
 ask-lazy-given-requires : tie.Need-ask-lazy-given-requires
-ask-lazy-given-requires c κs = c .loadable .ensures
+ask-lazy-given-requires c κs = c .loadable .ensures .decides
 
 returns : tie.Need-returns
-returns c = c .ask-lazy-given .ensures
+returns c = (c .ask-lazy-given .ensures, c .before .loadable .ensures .typed)
 
 pub ask-lazy-spec : {M : Type 1} → statement M
 ask-lazy-spec = tie.close (tie.spec loadable-requires ask-lazy-given-requires returns)

@@ -33,7 +33,7 @@ answerable-requires : tie.Need-answerable-requires Inv-loop μ-loop
 answerable-requires c κs = search needs
 
 loop-holds : tie.Need-loop-holds Inv-loop μ-loop
-loop-holds c = (replaying-start _ _ _ _, c .loadable .ensures)
+loop-holds c = (replaying-start _ _ _ _, c .loadable .ensures .decides)
 
 mul-at : tie.Need-mul-at Inv-loop μ-loop
 mul-at c = omega (arith, fits c .0, entry c .good .1 .0)

@@ -10,7 +10,9 @@ use Rattle.policy.specs.Table.{hierarchy, prerequisite, rows}
 use Rattle.policy.specs.LoadableLaws.{user-columns, edge-columns, formula-columns, demarcation-columns, hierarchy-pairs}
 use Rattle.policy.specs.LoadableLaws.{principal-columns, exclusion-columns, prerequisite-pairs, method-columns}
 use Rattle.policy.specs.LoadableLaws.{graphLoads, groundsLoad, loadable-parts}
+use mir.Syntax.{w8, w16, w64}
 use borrow.Author.Needs.{needs}
+use Rattle.policy.proofs.Fields.{Columns, column, typed}
 use Rattle.policy.proofs.loadable.loadable.Statement.{statement}
 use Rattle.policy.proofs.loadable.loadable.Tie as tie
 
@@ -42,11 +44,41 @@ grounds c =
 objects-few : (s : tie.Start) → s .args .t1 .objects ≤ mostObjects
 objects-few s = omega arith
 
+-- the record's columns, by the places of its fields, counted from 0
+columns : (c : tie.Start) → Columns (c .args .t1)
+columns c =
+    let f = c .good .0 .1 .1 in
+    record {
+      objects = f .0 .1;
+      user-objects = column w8 _ _ _ tt (f .1 .1 .0);
+      user-roles = column w16 _ _ _ tt (f .1 .1 .1 .0);
+      labels = column w8 _ _ _ tt (f .1 .1 .1 .1 .1 .0);
+      sources = column w8 _ _ _ tt (f .1 .1 .1 .1 .1 .1 .0);
+      targets = column w8 _ _ _ tt (f .1 .1 .1 .1 .1 .1 .1 .0);
+      ops = column w8 _ _ _ tt (f .1 .1 .1 .1 .1 .1 .1 .1 .1 .0);
+      lefts = column w8 _ _ _ tt (f .1 .1 .1 .1 .1 .1 .1 .1 .1 .1 .0);
+      rights = column w8 _ _ _ tt (f .1 .1 .1 .1 .1 .1 .1 .1 .1 .1 .1 .0);
+      demarcations = column w64 _ _ _ tt (f .1 .1 .1 .1 .1 .1 .1 .1 .1 .1 .1 .1 .1 .0);
+      inferiors = column w8 _ _ _ tt (f .1 .1 .1 .1 .1 .1 .1 .1 .1 .1 .1 .1 .1 .1 .1 .0);
+      superiors = column w8 _ _ _ tt (f .1 .1 .1 .1 .1 .1 .1 .1 .1 .1 .1 .1 .1 .1 .1 .1 .0);
+      formulas = column w8 _ _ _ tt (f .1 .1 .1 .1 .1 .1 .1 .1 .1 .1 .1 .1 .1 .1 .1 .1 .1 .1 .0);
+      grants = column w8 _ _ _ tt (f .1 .1 .1 .1 .1 .1 .1 .1 .1 .1 .1 .1 .1 .1 .1 .1 .1 .1 .1 .0);
+      lows = column w8 _ _ _ tt (f .1 .1 .1 .1 .1 .1 .1 .1 .1 .1 .1 .1 .1 .1 .1 .1 .1 .1 .1 .1 .1 .0);
+      highs = column w8 _ _ _ tt (f .1 .1 .1 .1 .1 .1 .1 .1 .1 .1 .1 .1 .1 .1 .1 .1 .1 .1 .1 .1 .1 .1 .0);
+      needs = column w8 _ _ _ tt (f .1 .1 .1 .1 .1 .1 .1 .1 .1 .1 .1 .1 .1 .1 .1 .1 .1 .1 .1 .1 .1 .1 .1 .1 .0);
+      dependents = column w8 _ _ _ tt (f .1 .1 .1 .1 .1 .1 .1 .1 .1 .1 .1 .1 .1 .1 .1 .1 .1 .1 .1 .1 .1 .1 .1 .1 .1 .0);
+      forms = column w8 _ _ _ tt (f .1 .1 .1 .1 .1 .1 .1 .1 .1 .1 .1 .1 .1 .1 .1 .1 .1 .1 .1 .1 .1 .1 .1 .1 .1 .1 .1 .0);
+      methods = column w64 _ _ _ tt (f .1 .1 .1 .1 .1 .1 .1 .1 .1 .1 .1 .1 .1 .1 .1 .1 .1 .1 .1 .1 .1 .1 .1 .1 .1 .1 .1 .1 .0);
+    }
+
 returns : tie.Need-returns
 returns c =
     let s = entry (graph-tested c) in
     let r = s .args .t1 in
-    (λ i. ltb 0 (r .objects) && (graph (graph-tested c) i && grounds c i)) ∙ loadable-parts r (objects-few s)
+    record {
+      decides = (λ i. ltb 0 (r .objects) && (graph (graph-tested c) i && grounds c i)) ∙ loadable-parts r (objects-few s);
+      typed = typed (columns s);
+    }
 
 pub loadable-spec : {M : Type 1} → statement M
 loadable-spec = tie.close (tie.spec graph-loads-requires grounds-load-requires returns)

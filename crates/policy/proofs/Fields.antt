@@ -11,12 +11,11 @@ use denote.Shadow.{shadow}
 use denote.Struct.Field.{uint-field, array-field}
 use borrow.Author.Needs.{elem-fits-field}
 use Rattle.common.specs.Lists.{at}
 use Rattle.policy.specs.declared.Record.{Record}
 use Rattle.policy.specs.Table.{Kind, head, user, edge, formula, demarcation, hierarchy, principal, exclusion, prerequisite, method, end}
-use Rattle.policy.specs.Table.{row}
+use Rattle.policy.specs.Table.{row, widths}
 use Rattle.policy.specs.TableLaws.{sized}
-use Rattle.reading.specs.Body.{widths}
-use Rattle.bundle.specs.Typed.{Fit, Typed}
+use Rattle.policy.specs.Typed.{Fit, Typed}
 
 -- a column of n numbers of a width
 pub record Column (w : Width) (n : ℕ) (c : List ℕ) : Type 0 where
