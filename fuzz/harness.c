@@ -1,79 +1,18 @@
-/* Both C functions on one input: what must always hold, and the same from the reference. */
-#include <stdio.h>
+/* The C functions on one input: what must always hold, and the same from the reference. */
 #include <stdlib.h>
 #include <string.h>
 
 #include "../include/case_access.h"
-#include "bundle.h"
+#include "check.h"
 #include "cost.h"
 #include "coverage.h"
-#include "guarded.h"
+#include "lent.h"
 #include "random.h"
 #include "tally.h"
 
 uint64_t reference_rewrite(const uint8_t *bundle, size_t bundle_length, uint8_t *out, size_t out_length);
 uint64_t reference_replay(const uint8_t *bundle, size_t bundle_length, const uint8_t *calls, size_t calls_length, uint8_t *answers,
                           size_t answers_length);
-
-static struct area text_area, calls_area, engine_area, reference_area;
-static struct slice text, calls;
-static struct bundle lines;
-
-/* Prints bytes: text as it is where that is asked for, anything else as hexadecimal. */
-static void print(const char *name, struct slice bytes, bool as_text)
-{
-    size_t i;
-
-    fprintf(stderr, "%s (%zu bytes):\n", name, bytes.length);
-    for (i = 0; i < bytes.length; i++) {
-        uint8_t byte = bytes.start[i];
-        bool plain = as_text && (byte == '\n' || (byte >= ' ' && byte < 127));
-        fprintf(stderr, plain ? "%c" : "[%02X]", byte);
-    }
-    fprintf(stderr, "\n");
-}
-
-/* Stops with a message and the case unless a condition holds. */
-static void must(bool holds, const char *what)
-{
-    if (holds)
-        return;
-    fprintf(stderr, "VIOLATION: %s\n", what);
-    print("bundle", text, true);
-    print("calls", calls, false);
-    print("engine's buffer", (struct slice){engine_area.lent, engine_area.length}, false);
-    print("reference's buffer", (struct slice){reference_area.lent, reference_area.length}, false);
-    abort();
-}
-
-/* Puts bytes against a forbidden page, so that a read past them is a crash. */
-static struct slice placed(struct area *area, struct slice bytes)
-{
-    area_lend(area, bytes.length, random_any() & 1, 0);
-    if (bytes.length)
-        memcpy(area->lent, bytes.start, bytes.length);
-    return (struct slice){area->lent, bytes.length};
-}
-
-/* Stops unless both returned the same and left the same bytes. */
-static void must_agree(uint64_t engine, uint64_t reference)
-{
-    if (engine != reference)
-        fprintf(stderr, "engine %#lx, reference %#lx\n", (unsigned long)engine, (unsigned long)reference);
-    must(engine == reference, "engine and reference return different values");
-    must(area_stays(&engine_area, engine_area.length), "bytes around the lent buffer changed");
-    must(memcmp(engine_area.lent, reference_area.lent, engine_area.length) == 0, "engine and reference leave different bytes");
-}
-
-/* Lends the engine and the reference buffers of one length, filled alike. */
-static void lend(size_t room)
-{
-    bool at_end = random_any() & 1;
-    uint8_t fill = (uint8_t)random_any();
-
-    area_lend(&engine_area, room, at_end, fill);
-    area_lend(&reference_area, room, at_end, fill);
-}
 
 /* Rewrites the text by both into so much room. */
 static uint64_t rewrite(size_t room)
@@ -137,22 +76,23 @@ static void check_written(uint64_t value, size_t room)
         tally_short();
 }
 
-/* Rewrites into buffers of several lengths; returns the number of the bundle. */
+/* Rewrites into buffers of several lengths; returns the number of the bundle and its line. */
 static uint64_t check_rewrites(void)
 {
     size_t exact = text.length, i, rooms[] = {exact, exact ? exact - 1 : 0, 0, below((unsigned)exact), exact + 1 + below(100)};
-    uint64_t first = rewrite(exact) >> 32;
+    uint64_t first = rewrite(exact);
+    bool accepted = first >> 32 == 0;
 
     for (i = 0; i < sizeof rooms / sizeof *rooms; i++) {
         uint64_t value = rewrite(rooms[i]);
-        if (first == 0)
+        if (accepted)
             check_written(value, rooms[i]);
         else
             check_refused(value);
-        must(first == 0 || value >> 32 == first, "rewrite: the room changed the refusal");
+        must(accepted || value == first, "rewrite: the room changed the refusal");
     }
-    tally_bundle(first);
-    return first;
+    tally_bundle(first >> 32);
+    return accepted ? 0 : first;
 }
 
 /* What was written is rewritten to the same again. */
@@ -270,6 +210,7 @@ static void check_answers(void)
     must(memcmp(engine_area.lent, answers, 5 * count) == 0, "replay: two runs differ");
     check_beginning(answers);
     check_forms(answers);
+    check_lent(answers);
 }
 
 /* Leaves out the questions that would take long, but for one input in 64. */
@@ -294,7 +235,7 @@ static void choose_by(const uint8_t *data, size_t size)
     random_start(hash);
 }
 
-/* Neither function writes to what it was lent to read. */
+/* No function writes to what it was lent to read. */
 static void check_unchanged(struct input input)
 {
     must(text.length == 0 || memcmp(text.start, input.text.start, text.length) == 0, "the bundle was changed");
@@ -305,16 +246,17 @@ static void check_unchanged(struct input input)
 int LLVMFuzzerTestOneInput(const uint8_t *data, size_t size)
 {
     struct input input = input_split(data, size);
-    uint64_t number;
+    uint64_t refusal;
 
     if (input.text.length > MOST_TEXT)
         return -1;
     choose_by(data, size);
     text = placed(&text_area, input.text);
     calls = placed(&calls_area, input.calls);
-    number = check_rewrites();
-    if (number != 0) {
-        check_unanswered(number);
+    refusal = check_rewrites();
+    if (refusal != 0) {
+        check_unanswered(refusal >> 32);
+        check_lent_refused(refusal);
     } else {
         check_again();
         check_altered();

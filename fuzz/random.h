@@ -5,7 +5,7 @@
 #include <stdbool.h>
 #include <stdint.h>
 
-static uint64_t random_state = 1;
+extern uint64_t random_state;
 
 /* Starts from a seed. */
 static inline void random_start(uint64_t seed)

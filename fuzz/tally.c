@@ -3,6 +3,7 @@
 #include <stdio.h>
 
 static size_t bundles[19], answers[19], kinds[7], granted, yes, dropped;
+static size_t parts, writes[20], again, of_edited, refused, altered[20];
 
 /* Counts a bundle by its number. */
 void tally_bundle(uint64_t number)
@@ -33,6 +34,45 @@ void tally_dropped(size_t calls)
     dropped += calls;
 }
 
+/* Counts a part of a list on a lent record. */
+void tally_lent_part(void)
+{
+    parts++;
+}
+
+/* Counts a write of a lent record by its number. */
+void tally_lent_write(uint64_t number)
+{
+    writes[number]++;
+}
+
+/* Counts what was written and loaded again, and whether it was another bundle than the one loaded before. */
+void tally_lent_again(bool edited)
+{
+    again++;
+    of_edited += edited;
+}
+
+/* Counts a bundle that was refused over rules. */
+void tally_lent_refused(void)
+{
+    refused++;
+}
+
+/* Counts a record with octets altered by what it is written with. */
+void tally_lent_altered(uint64_t number)
+{
+    altered[number]++;
+}
+
+/* Prints the counts of lent records. */
+static void tally_lent_print(void)
+{
+    fprintf(stderr, "lent records: parts of lists:%zu; writes by number: 0:%zu 18:%zu 19:%zu; ", parts, writes[0], writes[18], writes[19]);
+    fprintf(stderr, "written and loaded again:%zu, after an edit:%zu; refused over rules:%zu; ", again, of_edited, refused);
+    fprintf(stderr, "with octets altered, by number: 0:%zu 19:%zu\n", altered[0], altered[19]);
+}
+
 /* Prints the counts. */
 void tally_print(void)
 {
@@ -49,4 +89,5 @@ void tally_print(void)
     for (i = 0; i < 7; i++)
         fprintf(stderr, " %s:%zu", names[i], kinds[i]);
     fprintf(stderr, "; sets granted other than the empty one: %zu; yes: %zu; calls left out as too slow: %zu\n", granted, yes, dropped);
+    tally_lent_print();
 }

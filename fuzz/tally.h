@@ -2,6 +2,7 @@
 #ifndef TALLY_H
 #define TALLY_H
 
+#include <stdbool.h>
 #include <stddef.h>
 #include <stdint.h>
 
@@ -9,6 +10,11 @@ void tally_bundle(uint64_t number);
 void tally_short(void);
 void tally_answer(unsigned kind, const uint8_t *answer);
 void tally_dropped(size_t calls);
+void tally_lent_part(void);
+void tally_lent_write(uint64_t number);
+void tally_lent_again(bool edited);
+void tally_lent_refused(void);
+void tally_lent_altered(uint64_t number);
 void tally_print(void);
 
 #endif

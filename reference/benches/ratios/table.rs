@@ -17,11 +17,23 @@ pub fn head() {
         "engine/reference",
         "goal",
     );
+    if is_markdown() {
+        println!("|---|---|---|---|---|");
+    }
+}
+
+/// Whether the command asks for a table in Markdown.
+fn is_markdown() -> bool {
+    std::env::args().any(|word| word == "--markdown")
 }
 
 /// The name of a group of rows.
 pub fn title(text: &str) {
-    println!("{text}");
+    if is_markdown() {
+        println!("| **{text}** | | | | |");
+    } else {
+        println!("{text}");
+    }
 }
 
 /// A row that was measured or estimated.
@@ -63,5 +75,13 @@ fn goal(bytes: bool, ratio: f64) -> String {
 
 /// One line of columns.
 fn line(name: &str, engine: &str, reference: &str, ratio: &str, goal: &str) {
+    if is_markdown() {
+        let goal = goal.split_whitespace().collect::<Vec<_>>().join(" ");
+        println!(
+            "| {} | {engine} | {reference} | {ratio} | {goal} |",
+            name.trim()
+        );
+        return;
+    }
     println!("{name:<NAME$} {engine:<TIME$} {reference:<TIME$} {ratio:<TIME$} {goal}");
 }
