@@ -4,7 +4,6 @@ pub mod Height
 pub mod Rows
 pub mod Loadable
 pub mod Edits
-pub mod EdgeRows
 pub mod RowLaws
 pub mod LoadableLaws
 pub mod RoomLaws
@@ -12,6 +11,7 @@ pub mod TableLaws
 pub mod HeightLaws
 pub mod GrowthLaws
 pub mod EdgeLaws
+pub mod EdgeRows
 pub mod ChangedLaws
 pub mod ColumnLaws
 pub mod EditLaws
