@@ -63,22 +63,28 @@ module _ (r : Record) (l x y : ℕ) where
   unfolding removed
   removed-when a = rw (a .loads, a .fits, a .present)
 
-  pub adds : added r l x y .number ≡ 0 → Adds
-  unfolding added
-  adds e =
-      let a = no-first 18 (not (loadable r)) _ (edited-accepted r (addRefusal r l x y) _ _ e) in
+  pub adds-when : addRefusal r l x y ≡ 0 → Adds
+  adds-when e =
+      let a = no-first 18 (not (loadable r)) _ e in
       let b = no-first 9 (not (edgeInRange (r .objects) l x y)) _ (a .1) in
       let c = no-first 10 (edgeIn (rows edge r) (l ∷ x ∷ y ∷ [])) _ (b .1) in
       let d = no-first 12 (leb mostEdges (r .«edge_count»)) _ (c .1) in
       record { loads = not-false _ (a .0); fits = not-false _ (b .0); absent = c .0; room = leb-false mostEdges (r .«edge_count») (d .0) }
 
-  pub removes : removed r l x y .number ≡ 0 → Removes
-  unfolding removed
-  removes e =
-      let a = no-first 18 (not (loadable r)) _ (edited-accepted r (removeRefusal r l x y) _ _ e) in
+  pub removes-when : removeRefusal r l x y ≡ 0 → Removes
+  removes-when e =
+      let a = no-first 18 (not (loadable r)) _ e in
       let b = no-first 9 (not (edgeInRange (r .objects) l x y)) _ (a .1) in
       let c = no-first 11 (not (edgeIn (rows edge r) (l ∷ x ∷ y ∷ []))) _ (b .1) in
       record { loads = not-false _ (a .0); fits = not-false _ (b .0); present = not-false _ (c .0) }
+
+  pub adds : added r l x y .number ≡ 0 → Adds
+  unfolding added
+  adds e = adds-when (edited-accepted r (addRefusal r l x y) _ _ e)
+
+  pub removes : removed r l x y .number ≡ 0 → Removes
+  unfolding removed
+  removes e = removes-when (edited-accepted r (removeRefusal r l x y) _ _ e)
 
   -- ---- adding
 

@@ -5,7 +5,6 @@ pub mod Rows
 pub mod Rising
 pub mod Loadable
 pub mod Edits
-pub mod EdgeRows
 pub mod RowLaws
 pub mod RisingLaws
 pub mod LoadableLaws
@@ -15,6 +14,7 @@ pub mod Typed
 pub mod HeightLaws
 pub mod GrowthLaws
 pub mod EdgeLaws
+pub mod EdgeRows
 pub mod ChangedLaws
 pub mod ColumnLaws
 pub mod EditLaws

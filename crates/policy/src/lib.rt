@@ -11,7 +11,9 @@ use common::MOST_PAIRS;
 use common::MOST_PRINCIPALS;
 use common::MOST_USERS;
 
+mod edges;
 pub mod edits;
+pub mod given;
 pub mod loadable;
 
 // For one pair (object, requestor): which formulas have been evaluated, and what they came to.

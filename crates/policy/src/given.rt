@@ -1,0 +1,82 @@
+// The edits where it is known whether some bundle loads to the record, so that a list of calls tests it once: the same contracts.
+
+ghost use mathlib.Core.Path.{_≡_};
+ghost use Rattle.policy.specs.Loadable as validity;
+ghost use Rattle.policy.specs.Edits as spec;
+use crate::Edited;
+use crate::Record;
+use crate::edges::add_refusal;
+use crate::edges::edge_place;
+use crate::edges::insert;
+use crate::edges::remove;
+use crate::edges::remove_refusal;
+use crate::emptied;
+use common::ACCEPTED;
+
+impl Record {
+    // `add_edge` with the answer of the test.
+    pub fn add_edge_given(mut self, loads: bool, label: u8, source: u8, target: u8) -> Edited
+        requires { ⌜ loads ≡ validity.loadable self ⌝ }
+        ensures { λ r. ⌜ r ≡ spec.added self label source target ⌝ }
+    {
+        let count = self.edge_count;
+        let place = edge_place(
+            loads,
+            self.objects,
+            count,
+            &self.edge_labels,
+            &self.edge_sources,
+            &self.edge_targets,
+            label,
+            source,
+            target,
+        );
+        let number = add_refusal(place, count);
+        if number == ACCEPTED {
+            let row = place.row;
+            insert(&mut self.edge_labels, count, row, label);
+            insert(&mut self.edge_sources, count, row, source);
+            insert(&mut self.edge_targets, count, row, target);
+            let memo = emptied(0, 0);
+            self.edge_count = count + 1;
+            self.memo = memo;
+        }
+        Edited {
+            number: number,
+            rules: self,
+        }
+    }
+
+    // `remove_edge` with the answer of the test.
+    pub fn remove_edge_given(mut self, loads: bool, label: u8, source: u8, target: u8) -> Edited
+        requires { ⌜ loads ≡ validity.loadable self ⌝ }
+        ensures { λ r. ⌜ r ≡ spec.removed self label source target ⌝ }
+    {
+        let count = self.edge_count;
+        let place = edge_place(
+            loads,
+            self.objects,
+            count,
+            &self.edge_labels,
+            &self.edge_sources,
+            &self.edge_targets,
+            label,
+            source,
+            target,
+        );
+        let number = remove_refusal(place);
+        if number == ACCEPTED {
+            let row = place.row;
+            remove(&mut self.edge_labels, count, row);
+            remove(&mut self.edge_sources, count, row);
+            remove(&mut self.edge_targets, count, row);
+            let empty = emptied(0, 0);
+            self.edge_count = count - 1;
+            self.memo = empty;
+        }
+        Edited {
+            number: number,
+            rules: self,
+        }
+    }
+}
