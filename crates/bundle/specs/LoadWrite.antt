@@ -8,6 +8,7 @@ use native.Mathlib.Omega.{arith}
 use lib.ListN.{length, length-append}
 use borrow.Author.Tests.{ne-eqb}
 use Rattle.common.specs.Lists.{at}
+use Rattle.octets.specs.LineLaws.{totals-append}
 use Rattle.octets.specs.Line.{Framed, kindOctet, bodyOf, totals, textOf}
 use Rattle.policy.specs.declared.Record.{Record}
 use Rattle.policy.specs.Table.{Kind, head, end, code, kindOf, kinds, appended}
@@ -27,10 +28,6 @@ use Rattle.reading.specs.KindLaws.{as-many}
 use Rattle.bundle.specs.GrownLaws.{lines-more, lines-first}
 use Rattle.reading.specs.TakenLaws.{read-taken, end-taken}
 use Rattle.bundle.specs.TakenLaws.{taken-end, taken-head, load-framed}
-
-totals-append : (ls ms : List (List ℕ)) → totals (ls ++ ms) ≡ totals ls + totals ms
-totals-append [] ms = omega arith
-totals-append (os ∷ ls) ms = let h = totals-append ls ms in omega arith
 
 no-length : {A : Type 0} (l : List A) → length l ≡ 0 → l ≡ []
 no-length [] e = refl

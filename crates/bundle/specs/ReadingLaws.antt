@@ -10,6 +10,7 @@ use borrow.Author.Tests.{eqb-true, eq-eqb, ne-eqb, le-ltb}
 use Rattle.common.specs.BoolLaws.{same-test}
 use Rattle.common.specs.Causes.{Cause, cause, first}
 use Rattle.common.specs.Refusals.{wrongEnd}
+use Rattle.octets.specs.LineLaws.{totals-append}
 use Rattle.octets.specs.Line.{Framed, octets, kindOctet, bodyOf, total, totals}
 use Rattle.policy.specs.Table.{Kind, head, code, isKind, kindOf, count}
 use Rattle.policy.specs.TableLaws.{kind-of-code}
@@ -55,10 +56,6 @@ pub record Read (ls : List (List ℕ)) (t : Reading) : Type 0 where
 
 pub read-none : Read [] atTop
 read-none = record { same = λ rest. refl; lines = refl; sum = refl }
-
-totals-append : (ls ms : List (List ℕ)) → totals (ls ++ ms) ≡ totals ls + totals ms
-totals-append [] ms = omega arith
-totals-append (os ∷ ls) ms = omega (arith, totals-append ls ms)
 
 -- one line: it is taken, and reading goes on after it
 read-one : (t : Reading) (k : Kind) (os : List ℕ) (rest : List Framed) → kindOctet os ≡ code k → lineRefusal t k os ≡ 0

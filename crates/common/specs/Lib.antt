@@ -7,5 +7,6 @@ pub mod Order
 pub mod ListLaws
 pub mod BoolLaws
 pub mod SetLaws
+pub mod CountLaws
 pub mod QuantifierLaws
 pub mod OrderLaws

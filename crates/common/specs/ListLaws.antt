@@ -5,9 +5,11 @@ use mathlib.Core.Bool.{Bool, true, false, _&&_, _||_}
 use mathlib.Core.List.{List, [], _∷_, _++_, map, map-append}
 use native.Mathlib.Omega.{arith}
 use native.Mathlib.Numerals.{add-one}
-use lib.ListN.{length, getD, take, drop}
+use lib.ListN.{length, getD, take, drop, replicate}
+use lib.Dec.{eqb}
+use borrow.Author.Tests.{eq-eqb}
 use lib.Seq.{take-suc, drop-cons}
-use Rattle.common.specs.Lists.{at, any, every, table}
+use Rattle.common.specs.Lists.{at, any, every, table, same}
 use Rattle.common.specs.BoolLaws.{and-true, and-cases, and-both}
 
 -- what is left at a place: the number there, and what is left at the next
@@ -77,3 +79,14 @@ map-table {B = B} g (suc n) f = map-append g (table n f) (f n ∷ []) ∙ ap (λ
 pub table-take : (n : ℕ) (s : List ℕ) → n ≤ length s → table n (at s) ≡ take n s
 table-take zero s h = refl
 table-take (suc n) s h = ap (λ (l : List ℕ). l ++ (at s n ∷ [])) (table-take n s (omega arith)) ∙ sym (take-suc s n 0 h)
+
+-- a row is the same as itself
+pub same-self : (l : List ℕ) → same l l ≡ true
+same-self [] = refl
+same-self (x ∷ l) = and-both (eqb x x) (same l l) (eq-eqb x x refl) (same-self l)
+
+-- a column of zeros
+pub zero-at : (n g : ℕ) → at (replicate n 0) g ≡ 0
+zero-at zero g = refl
+zero-at (suc n) zero = refl
+zero-at (suc n) (suc g) = zero-at n g

@@ -6,6 +6,7 @@ use mathlib.Core.Bool.{Bool, true, false≢true, not, cond, _&&_, _||_}
 use mathlib.Core.List.{List, [], _∷_}
 use lib.Dec.{eqb}
 use borrow.Author.Tests.{eqb-true, eq-eqb}
+use Rattle.common.specs.ListLaws.{same-self}
 use Rattle.common.specs.Lists.{at, any, same}
 use Rattle.common.specs.BoolLaws.{and-cases, and-both, or-cases, or-left, or-right, same-test}
 use Rattle.rows.specs.Op.{Op, always, requestor, object, role, negation, conjunction, disjunction, forward, backward, unknown, opOf}
@@ -19,10 +20,6 @@ same-is [] [] e = refl
 same-is [] (y ∷ m) e = absurd (false≢true e)
 same-is (x ∷ l) [] e = absurd (false≢true e)
 same-is (x ∷ l) (y ∷ m) e = let p = and-cases (eqb x y) _ e in λ j. eqb-true x y (p .0) j ∷ same-is l m (p .1) j
-
-same-self : (l : List ℕ) → same l l ≡ true
-same-self [] = refl
-same-self (x ∷ l) = and-both (eqb x x) _ (eq-eqb x x refl) (same-self l)
 
 module _ (p : List ℕ → Bool) where
   -- some edge passes: it is one of them

@@ -12,7 +12,7 @@ use borrow.Author.Tests.{eqb-true, eqb-false, eq-eqb, ne-eqb, lt-leb, leb-false}
 use Rattle.common.specs.Lists.{every, same}
 use Rattle.common.specs.BoolLaws.{and-cases, and-both, or-left}
 use Rattle.common.specs.Causes.{cause, first}
-use Rattle.common.specs.ListLaws.{length-table}
+use Rattle.common.specs.ListLaws.{length-table, same-self}
 use Rattle.common.specs.QuantifierLaws.{all-of}
 use Rattle.common.specs.Refusals.{edgeOutOfRange, edgePresent, edgeAbsent, edgesFull, noMethod, noObject, notUser, noSet}
 use Rattle.common.specs.Sets.{member}
@@ -65,10 +65,6 @@ edit-holds before after n number r left e changes stays keeps =
         go : (v : Bool) → eqb k 0 ≡ v → number ≡ 0
         go true u = i ∙ eqb-true k 0 u
         go false u = absurd (f (eqb-false k 0 u))
-
-same-self : (e : List ℕ) → same e e ≡ true
-same-self [] = refl
-same-self (x ∷ e) = and-both (eqb x x) (same e e) (eq-eqb x x refl) (same-self e)
 
 -- what an accepted edit says of its edge
 absent : (x y z : Bool) → first (cause edgeOutOfRange x ∷ cause edgePresent y ∷ cause edgesFull z ∷ []) ≡ 0 → y ≡ false

@@ -12,6 +12,7 @@ use lib.Dec.{eqb}
 use lib.ListN.{length, set, replicate, length-set}
 use lib.Seq.{getD-set-same, getD-set-other}
 use borrow.Author.Tests.{eqb-true, eq-eqb}
+use Rattle.common.specs.ListLaws.{zero-at}
 use Rattle.common.specs.Lists.{at, any, same}
 use Rattle.common.specs.ListLaws.{any-more}
 use Rattle.common.specs.Sets.{In}
@@ -62,11 +63,6 @@ same-pair x y a b = (
 module _ (lows highs : List ℕ) where
   pub record Excludes (i : ℕ) (sets : List ℕ) : Type 0 where
     pub each : (p q : ℕ) → p < 20 → (In q (at sets p) ↔ AmongPairs i lows highs p q)
-
-  zero-at : (n g : ℕ) → at (replicate n 0) g ≡ 0
-  zero-at zero g = refl
-  zero-at (suc n) zero = refl
-  zero-at (suc n) (suc g) = zero-at n g
 
   pub excludes-none : Excludes 0 (replicate 20 0)
   excludes-none = record { each = λ p q l. (λ m. absurd (none-in-zero q (subst (In q) (zero-at 20 p) m)), λ e. absurd (false≢true e)) }

@@ -7,10 +7,10 @@ use mathlib.Core.List.{List, [], _∷_, _++_, map}
 use mathlib.Core.Option.{Option, none, some}
 use native.Mathlib.Omega.{arith}
 use native.Mathlib.Decide.{decLt}
-use native.Mathlib.Nat.{pow-suc, one-mul, mul-comm, add-comm}
-use lib.Arith.{bin-ind}
+use native.Mathlib.Nat.{add-comm}
 use lib.Pow.{pow-pos}
-use lib.Count.{ones, onesIn, ones-step, ones-cat, ones-le}
+use lib.Count.{ones, ones-le}
+use Rattle.common.specs.CountLaws.{ones-zero, no-ones, ones-top, power-double}
 use Rattle.common.specs.Lists.{every, those}
 use Rattle.policy.specs.declared.Record.{Record}
 use Rattle.search.specs.Search.{Before}
@@ -55,33 +55,13 @@ first-those q p (x ∷ l) = go (p x) (first-those q p l)
     go false e = e
 
 -- ---- counting members
-ones-zero : ones 0 ≡ 0
-unfolding ones onesIn
-ones-zero = refl
 
-ones-one : ones 1 ≡ 1
-unfolding ones onesIn
-ones-one = refl
-
-no-ones : (y : ℕ) → ones y ≡ 0 → y ≡ 0
-no-ones = bin-ind (λ (n : ℕ). ones n ≡ 0 → n ≡ 0) (λ e. refl) (λ n ih e.
-    let s = ones-step n in
-    let h : n / 2 ≡ 0 = ih (omega arith) in
-    omega arith)
-
-ones-top : (m x : ℕ) → x < 2 ^ m → ones (x + 2 ^ m) ≡ 1 + ones x
-ones-top m x l =
-    ap ones (add-comm x (2 ^ m))
-    ∙ ap (λ (z : ℕ). ones (z + x)) (sym (one-mul (2 ^ m)))
-    ∙ ones-cat m 1 x l
-    ∙ ap (λ (z : ℕ). z + ones x) ones-one
-
-double : (m : ℕ) → 2 ^ suc m ≡ 2 * 2 ^ m
-double m = pow-suc 2 m ∙ mul-comm (2 ^ m) 2
+ones-above : (m x : ℕ) → x < 2 ^ m → ones (x + 2 ^ m) ≡ 1 + ones x
+ones-above m x l = ap ones (add-comm x (2 ^ m)) ∙ ones-top m x l
 
 -- y is below m, or holds m
 split : (m y : ℕ) → y < 2 ^ suc m → (y < 2 ^ m) ⊎ ((x : ℕ) × (y ≡ x + 2 ^ m) × (x < 2 ^ m))
-split m y l = elim (decLt y (2 ^ m)) [ yes h ↦ inl h | no f ↦ inr (y - 2 ^ m, omega arith, omega (arith, double m)) ]
+split m y l = elim (decLt y (2 ^ m)) [ yes h ↦ inl h | no f ↦ inr (y - 2 ^ m, omega arith, omega (arith, power-double m)) ]
 
 -- ---- the sets of one size
 abbrev LeastOf : ℕ → ℕ → (ℕ → Bool) → Option ℕ → Type 0
@@ -95,14 +75,14 @@ alone n p false e = λ y l o t. false≢true (sym e ∙ subst (λ (z : ℕ). p z
 both : (n k : ℕ) (p : ℕ → Bool) (a b : Option ℕ) → LeastOf n (suc k) p a → LeastOf n k (λ x. p (x + 2 ^ n)) b
     → LeastOf (suc n) (suc k) p (orElse a (mapped (λ x. x + 2 ^ n) b))
 both n k p (some c) b f g =
-    let d = double n in
+    let d = power-double n in
     let q = f .0 in
     (omega arith, f .1, f .2, λ y l o t. ⊎-elim (λ h. f .3 y h o t) (λ h. let e = h .1 in omega arith) (split n y l))
 both n k p none (some c) f g =
-    let d = double n in
+    let d = power-double n in
     let q = g .0 in
     let o = g .1 in
-    let u = ones-top n c q in (
+    let u = ones-above n c q in (
       omega arith,
       omega arith,
       g .2,
@@ -110,7 +90,7 @@ both n k p none (some c) f g =
           (λ h. absurd (f y h s t))
           (λ h.
           let e = h .1 in
-          let v = ones-top n (h .0) (h .2) in
+          let v = ones-above n (h .0) (h .2) in
           let w : ones (h .0 + 2 ^ n) ≡ suc k = subst (λ (z : ℕ). ones z ≡ suc k) e s in
           let m = g .3 (h .0) (h .2) (omega arith) (subst (λ (z : ℕ). p z ≡ true) e t) in
           omega arith)
@@ -120,7 +100,7 @@ both n k p none none f g = λ y l s t. ⊎-elim
     (λ h. f y h s t)
     (λ h.
     let e = h .1 in
-    let v = ones-top n (h .0) (h .2) in
+    let v = ones-above n (h .0) (h .2) in
     let w : ones (h .0 + 2 ^ n) ≡ suc k = subst (λ (z : ℕ). ones z ≡ suc k) e s in
     g (h .0) (h .2) (omega arith) (subst (λ (z : ℕ). p z ≡ true) e t))
     (split n y l)

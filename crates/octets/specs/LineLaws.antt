@@ -3,7 +3,7 @@ use Prim.Native.Nat.{ℕ, zero, suc, _+_, _-_, _*_, _%_, _≤_, _<_}
 use mathlib.Core.Path.{_≡_, refl, sym, _∙_, ap, subst}
 use mathlib.Core.Logic.{_⊎_, inl, inr}
 use mathlib.Core.Bool.{Bool, true, false, false≢true, cond, _&&_}
-use mathlib.Core.List.{List, [], _∷_}
+use mathlib.Core.List.{List, [], _∷_, _++_}
 use native.Mathlib.Omega.{arith}
 use native.Mathlib.Nat.{suc-add, le-of-suc-le-suc}
 use lib.ListN.{length, drop}
@@ -11,7 +11,7 @@ use lib.Dec.{ltb, leb, eqb}
 use borrow.Author.Tests.{ltb-true, leb-true, eqb-true, le-leb, lt-leb, lt-ltb, eq-eqb}
 use Rattle.common.specs.Lists.{at}
 use Rattle.common.specs.BoolLaws.{and-cases}
-use Rattle.octets.specs.Line.{digitValue, isDigit, pairs, octetsOf, total, lineOf, restOf, ended}
+use Rattle.octets.specs.Line.{digitValue, isDigit, pairs, octetsOf, total, totals, lineOf, restOf, ended}
 use Rattle.octets.specs.Line.{Framed, refused, octets, addsToZero, frame, starts, laterLines, lines}
 use Rattle.octets.specs.Answers.{octetOf, octetAt}
 
@@ -236,3 +236,9 @@ pub lines-cons : (t : List ℕ) → 0 < length t → lines t ≡ frame t ∷ lin
 unfolding lines
 lines-cons [] l = absurd (omega arith)
 lines-cons (b ∷ t) l = ap (λ (ls : List Framed). frame (b ∷ t) ∷ ls) (later (b ∷ t))
+
+-- ---- the plain sum of lines
+
+pub totals-append : (ls ms : List (List ℕ)) → totals (ls ++ ms) ≡ totals ls + totals ms
+totals-append [] ms = omega arith
+totals-append (os ∷ ls) ms = omega (arith, totals-append ls ms)

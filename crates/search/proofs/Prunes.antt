@@ -18,7 +18,8 @@ use Rattle.search.specs.declared.Masks.{Masks}
 use Rattle.search.specs.Search.{Met, NoCandidate}
 use Rattle.search.specs.Steps.{MetBy, ConflictFree, NoneHolds, Gives, Asks, NoneFrom}
 use Rattle.search.specs.Steps.{NeededBy, WithinFrom, Joins, State, NoCompletion}
-use Rattle.search.proofs.Steps.{«with», top-small, ones-zero}
+use Rattle.common.specs.CountLaws.{ones-zero}
+use Rattle.search.proofs.Steps.{«with», top-small}
 
 -- ---- the members from n on
 

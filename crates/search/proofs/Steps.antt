@@ -2,12 +2,11 @@
 use mathlib.Core.Path.{_≡_, refl, sym, ap, subst, _∙_}
 use mathlib.Core.Logic.{_⊎_, inl, inr, ⊎-elim}
 use Prim.Native.Nat.{ℕ, suc, _+_, _-_, _*_, _/_, _^_, _≤_, _<_}
-use native.Mathlib.Nat.{pow-suc, mul-assoc, mul-comm, add-mul, one-mul, eq-or-lt-of-le}
+use native.Mathlib.Nat.{mul-assoc, mul-comm, add-mul, one-mul, eq-or-lt-of-le}
 use native.Mathlib.Omega.{arith}
-use lib.Arith.{bin-ind}
 use lib.Pow.{pow-pos, pow-mono}
 use lib.Bits.{bitOr}
-use lib.Count.{ones, onesIn, ones-step, ones-cat, ones-le}
+use lib.Count.{ones, ones-le}
 use Rattle.search.specs.declared.Masks.{Masks}
 use Rattle.common.specs.Limits.{mostPrincipals}
 use Rattle.common.specs.Sets.{Apart}
@@ -16,24 +15,8 @@ use Rattle.search.specs.Answers.{FoundValues}
 use Rattle.search.specs.Answers.GrantedOrDenied.{grants, denies}
 use Rattle.search.specs.SearchLaws.{before-fewer, before-size}
 use Rattle.search.specs.Steps.{State, LeastCompletion, NoCompletion, Completed}
+use Rattle.common.specs.CountLaws.{ones-zero, no-ones, ones-top, power-double}
 use Rattle.common.specs.SetLaws.{le-or-lt, none-in-zero, or-in, pow-in, in-lt, in-ge, sum-in}
-
-pub ones-zero : ones 0 ≡ 0
-unfolding ones onesIn
-ones-zero = refl
-
-ones-one : ones 1 ≡ 1
-unfolding ones onesIn
-ones-one = refl
-
-no-ones : (y : ℕ) → ones y ≡ 0 → y ≡ 0
-no-ones = bin-ind (λ (n : ℕ). ones n ≡ 0 → n ≡ 0) (λ e. refl) (λ n ih e.
-    let s = ones-step n in
-    let h : n / 2 ≡ 0 = ih (omega arith) in
-    omega arith)
-
-ones-top : (m x : ℕ) → x < 2 ^ m → ones (2 ^ m + x) ≡ 1 + ones x
-ones-top m x l = ap (λ (z : ℕ). ones (z + x)) (sym (one-mul (2 ^ m))) ∙ ones-cat m 1 x l ∙ ap (λ (z : ℕ). z + ones x) ones-one
 
 module _ {r : Masks} {n c : ℕ} where
   pub chosen-alone : Candidate r c → LeastCompletion r n 0 c c
@@ -54,7 +37,7 @@ module _ {r : Masks} {n c : ℕ} where
 
 module _ {n m : ℕ} (e : n ≡ suc m) where
   double : 2 ^ n ≡ 2 * 2 ^ m
-  double = ap (λ (x : ℕ). 2 ^ x) e ∙ pow-suc 2 m ∙ mul-comm (2 ^ m) 2
+  double = ap (λ (x : ℕ). 2 ^ x) e ∙ power-double m
 
   -- y is below m, or holds m
   split : {y : ℕ} → y < 2 ^ n → (y < 2 ^ m) ⊎ ((x : ℕ) × (y ≡ 2 ^ m + x) × (x < 2 ^ m))

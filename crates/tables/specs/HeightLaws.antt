@@ -10,6 +10,7 @@ use lib.ListN.{length, set, replicate, length-set}
 use lib.Seq.{getD-set-same, getD-set-other}
 use lib.Dec.{eqb}
 use borrow.Author.Tests.{eq-eqb, ne-eqb}
+use Rattle.common.specs.ListLaws.{zero-at}
 use Rattle.common.specs.Limits.{mostFormulas}
 use Rattle.common.specs.Lists.{at}
 use Rattle.rows.specs.Op.{Op, opOf, heightOf}
@@ -36,11 +37,6 @@ module _ (ops lefts rights : List ℕ) where
   pub heights-none : Heights ops lefts rights (replicate mostFormulas 0) 0
   unfolding heightIn
   heights-none = record { size = refl; each = λ g. zero-at mostFormulas g }
-    where
-      zero-at : (n g : ℕ) → at (replicate n 0) g ≡ 0
-      zero-at zero g = refl
-      zero-at (suc n) zero = refl
-      zero-at (suc n) (suc g) = zero-at n g
 
   -- a formula below n has a height of at most n
   height-le : (n g : ℕ) → heightIn ops lefts rights n g ≤ n

@@ -9,6 +9,7 @@ use lib.ListN.{length, take, drop, length-append, take-append-drop, length-drop}
 use lib.Seq.{length-take-le, take-append-add, take-append-seam, drop-append-add, drop-drop}
 use Rattle.common.specs.Lists.{table}
 use Rattle.common.specs.ListLaws.{length-table}
+use Rattle.octets.specs.LineLaws.{totals-append}
 use Rattle.octets.specs.Line.{framed, lineBytes, textOf, totals}
 use Rattle.writing.specs.declared.Draft.{Draft}
 use Rattle.writing.specs.Drafts.{longestBody, RoomFor, Put}
@@ -17,10 +18,6 @@ pub text-append : (ls ms : List (List ℕ)) → textOf (ls ++ ms) ≡ textOf ls 
 text-append [] ms = refl
 text-append (os ∷ ls) ms =
     ap (λ (t : List ℕ). lineBytes os ++ t) (text-append ls ms) ∙ sym (append-assoc (lineBytes os) (textOf ls) (textOf ms))
-
-pub totals-append : (ls ms : List (List ℕ)) → totals (ls ++ ms) ≡ totals ls + totals ms
-totals-append [] ms = omega arith
-totals-append (os ∷ ls) ms = omega (arith, totals-append ls ms)
 
 pub put-none : (b : List ℕ) (d : Draft) → Put b b d d []
 put-none b d =
