@@ -1,20 +1,21 @@
 -- From the steps of a question to its answer: eager is one least set of the enabled, lazy at most P + 1 searches.
 use Prim.Native.Nat.{ℕ, zero, suc, _+_, _≤_, _<_}
-use mathlib.Core.Path.{_≡_, refl, sym, _∙_, ap}
+use mathlib.Core.Path.{_≡_, refl, sym, _∙_, ap, subst}
 use mathlib.Core.Logic.{_≢_}
-use mathlib.Core.Bool.{Bool, true, false, not}
+use mathlib.Core.Bool.{Bool, true, false, not, _&&_}
+use mathlib.Core.List.{List}
 use mathlib.Core.Option.{Option, none, some}
 use native.Mathlib.Omega.{arith}
 use borrow.Author.Tests.{ne-eqb}
 use Rattle.common.specs.Limits.{mostFormulas}
-use Rattle.common.specs.Lists.{below}
+use Rattle.common.specs.Lists.{at, below}
 use Rattle.common.specs.BoolLaws.{same-test}
 use Rattle.common.specs.Refusals.{noSet}
 use Rattle.common.specs.Sets.{member}
 use Rattle.common.specs.SetLaws.{member-in, in-member}
 use Rattle.policy.specs.declared.Record.{Record}
 use Rattle.policy.specs.declared.Memo.{Memo}
-use Rattle.policy.specs.Table.{Kind, formula, withEdges, withMemo}
+use Rattle.policy.specs.Table.{Kind, formula, withMemo}
 use Rattle.policy.specs.Loadable.{tableLoads}
 use Rattle.policy.specs.LoadableLaws.{table-few}
 use Rattle.formula.specs.Formula.{holdsRole}
@@ -24,13 +25,14 @@ use Rattle.justification.specs.declared.Question.{Question}
 use Rattle.justification.specs.Predicates.{questionRefusal}
 use Rattle.policy.specs.NamedLaws.{principal-named}
 use Rattle.justification.specs.MarkedSets.{Marks}
-use Rattle.memo.specs.Memo.{value}
+use Rattle.memo.specs.Memo.{known, value}
+use Rattle.memo.specs.Lent.{Principals}
 use Rattle.memo.specs.Walk.{formulaOf, granted, denied, outcome, evaluatedAll, eagerly, tried, knownFalse, afterWeighing, walk, tryNext}
 use Rattle.memo.specs.Walk.{searching}
 use Rattle.memo.specs.WalkLaws.{MemoLengths, walk-searches}
 use Rattle.memo.specs.declared.Tried.{Tried}
 use Rattle.memo.specs.Memo.{memoFor, newly}
-use Rattle.access.specs.Access.{truthAt, answered, refused, asked, eager, lazy}
+use Rattle.access.specs.Access.{truthAt, answered, leaves, refused, asked, eager, lazy}
 use Rattle.formula.specs.Evaluation.{trueAtObject}
 use Rattle.memo.specs.Walk.{weighedOf}
 use Rattle.memo.specs.StepLaws.{formulas-in-memo, least-ext, evaluated-ext, searching-ext}
@@ -107,45 +109,32 @@ module _ (r : Record) (q : Question) where
 -- ---- the answer, with the record as it is left
 
 module _ (r : Record) (before after : Memo) {n : ℕ} (e : n ≡ newly before after) where
-  pub granted-is : (c : ℕ)
-      → record {
-        number = 0;
-        set = c;
-        evaluations = n;
-        rules = withEdges r (r .«edge_count») (r .«edge_labels») (r .«edge_sources») (r .«edge_targets»)
-            after;
-      }
-      ≡ answered r before (granted c after)
-  unfolding answered withMemo
-  granted-is c =
-      λ i. record {
-        number = 0;
-        set = c;
-        evaluations = e i;
-        rules = withEdges r (r .«edge_count») (r .«edge_labels») (r .«edge_sources»)
-            (r .«edge_targets») after;
-      }
+  pub granted-is : (c : ℕ) → leaves r (record { number = 0; set = c; evaluations = n; memo = after }) ≡ answered r before (granted c after)
+  unfolding answered
+  granted-is c = λ i. record { number = 0; set = c; evaluations = e i; rules = withMemo r after }
 
-  pub denied-is :
-      record {
-        number = noSet;
-        set = 0;
-        evaluations = n;
-        rules = withEdges r (r .«edge_count») (r .«edge_labels») (r .«edge_sources»)
-            (r .«edge_targets») after;
-      }
-      ≡ answered r before (denied after)
-  unfolding answered withMemo
-  denied-is =
-      λ i. record {
-        number = noSet;
-        set = 0;
-        evaluations = e i;
-        rules = withEdges r (r .«edge_count») (r .«edge_labels») (r .«edge_sources»)
-            (r .«edge_targets») after;
-      }
+  pub denied-is : leaves r (record { number = noSet; set = 0; evaluations = n; memo = after }) ≡ answered r before (denied after)
+  unfolding answered
+  denied-is = λ i. record { number = noSet; set = 0; evaluations = e i; rules = withMemo r after }
+
+pub refused-is : (r : Record) (n : ℕ) (m : Memo) → m ≡ r .memo
+    → leaves r (record { number = n; set = 0; evaluations = 0; memo = m }) ≡ refused n r
+unfolding withMemo
+refused-is r n m e = λ i. record { number = n; set = 0; evaluations = 0; rules = withMemo r (e i) }
 
 -- ---- the searches, round by round
+
+-- a record has its own principals
+pub own-principals : (r : Record) → Principals (r .«principal_count») (r .«principal_formulas») r
+own-principals r = (refl, refl)
+
+-- the principals that are not known false, by a column of formulas that is the record's
+pub open-marks : {n s : ℕ} {formulas : List ℕ} (m : Memo) (r : Record) → Principals n formulas r
+    → Marks n (λ p. not (known m (at formulas p) && not (value m (at formulas p)))) s
+    → Marks (r .«principal_count») (λ p. not (knownFalse r m p)) s
+open-marks {n} {s} {formulas} m r e h =
+    subst (λ (k : ℕ). Marks k (λ p. not (knownFalse r m p)) s) (e .0)
+    (subst (λ (l : List ℕ). Marks n (λ p. not (known m (at l p) && not (value m (at l p)))) s) (e .1) h)
 
 module _ (truth : ℕ → Bool) (r : Record) (k : ℕ) (before : Memo) where
   -- after some rounds: what is left to do, with the memo as it is, comes to what the whole comes to

@@ -14,6 +14,7 @@ use Rattle.justification.specs.Predicates.{questionRefusal}
 use Rattle.memo.specs.Memo.{memoFor, newly}
 use Rattle.memo.specs.Walk.{Outcome, granted, denied, evaluatedAll, eagerly, walk}
 use Rattle.access.specs.declared.Answer.{Answer}
+use Rattle.access.specs.declared.Decision.{Decision}
 
 -- what a formula comes to, evaluated afresh at the object
 abbrev pub truthAt : Record → Question → ℕ → Bool
@@ -23,6 +24,10 @@ truthAt r q f = holds r f (q .object) (q .object) (q .requestor)
 unfoldable pub answered : Record → Memo → Outcome → Answer
 answered r before (granted c after) = record { number = 0; set = c; evaluations = newly before after; rules = withMemo r after }
 answered r before (denied after) = record { number = noSet; set = 0; evaluations = newly before after; rules = withMemo r after }
+
+-- the answer of a decision: the record has the decision's memo
+abbrev pub leaves : Record → Decision → Answer
+leaves r d = record { number = d .number; set = d .set; evaluations = d .evaluations; rules = withMemo r (d .memo) }
 
 -- refused before that, with 19, 14, 15 or 16: the empty set, 0, and the record
 abbrev pub refused : ℕ → Record → Answer

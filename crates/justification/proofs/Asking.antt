@@ -2,17 +2,21 @@
 use Prim.Native.Nat.{ℕ, zero, suc, _≤_, _<_}
 use mathlib.Core.Path.{_≡_, refl, sym, _∙_, ap}
 use mathlib.Core.Logic.{_≢_}
-use mathlib.Core.Bool.{Bool, true, false, _&&_, _||_}
+use mathlib.Core.Bool.{Bool, true, false, not, _&&_, _||_}
 use mathlib.Core.List.{List, [], _∷_}
 use lib.Dec.{leb, eqb}
 use borrow.Author.Tests.{le-leb, lt-leb, leb-false, ne-eqb}
 use native.Mathlib.Omega.{arith}
+use Rattle.common.specs.Causes.{cause, first}
+use Rattle.common.specs.Limits.{mostUsers}
 use Rattle.common.specs.Refusals.{noMethod, noObject, notUser, notLoadable}
 use Rattle.policy.specs.declared.Record.{Record}
+use Rattle.policy.specs.Table.{user}
 use Rattle.policy.specs.Loadable.{loadable}
+use Rattle.policy.specs.LoadableLaws.{table-few, loadable-table}
 use Rattle.formula.specs.Formula.{isUser}
 use Rattle.justification.specs.declared.Question.{Question}
-use Rattle.justification.specs.Predicates.{isUserIn, questionRefusal, enabled, liberal, strict}
+use Rattle.justification.specs.Predicates.{isUserIn, refusalOf, questionRefusal, enabled, liberal, strict}
 use Rattle.justification.specs.Justification.{meets}
 use Rattle.common.specs.Lists.{at, any, table}
 use Rattle.common.specs.ListLaws.{any-more}
@@ -29,29 +33,43 @@ users-in objects roles s (suc n) =
 pub user-in : (r : Record) (s : ℕ) → isUserIn (r .«user_count») (r .«user_objects») s ≡ isUser r s
 user-in r s = users-in (r .«user_objects») (r .«user_roles») s (r .«user_count»)
 
-module _ (r : Record) (q : Question) where
-  pub not-loadable : loadable r ≡ false → notLoadable ≡ questionRefusal r q
-  unfolding questionRefusal
+module _ (loads : Bool) (methods objects users : ℕ) (column : List ℕ) (q : Question) where
+  pub not-loadable : loads ≡ false → notLoadable ≡ refusalOf loads methods objects users column q
+  unfolding refusalOf
   not-loadable e = rw e refl
 
-  module _ (e : loadable r ≡ true) where
-    pub no-method : r .«method_count» ≤ q .method → noMethod ≡ questionRefusal r q
-    unfolding questionRefusal
-    no-method l = rw (e, le-leb (r .«method_count») (q .method) l) refl
+  module _ (e : loads ≡ true) where
+    pub no-method : methods ≤ q .method → noMethod ≡ refusalOf loads methods objects users column q
+    unfolding refusalOf
+    no-method l = rw (e, le-leb methods (q .method) l) refl
 
-    module _ (k : q .method < r .«method_count») where
-      pub no-object : r .objects ≤ q .object → noObject ≡ questionRefusal r q
-      unfolding questionRefusal
-      no-object l = rw (e, lt-leb (r .«method_count») (q .method) k, le-leb (r .objects) (q .object) l) refl
+    module _ (k : q .method < methods) where
+      pub no-object : objects ≤ q .object → noObject ≡ refusalOf loads methods objects users column q
+      unfolding refusalOf
+      no-object l = rw (e, lt-leb methods (q .method) k, le-leb objects (q .object) l) refl
 
-      module _ (j : q .object < r .objects) where
-        pub not-user : isUser r (q .requestor) ≡ false → notUser ≡ questionRefusal r q
-        unfolding questionRefusal
-        not-user u = rw (e, lt-leb (r .«method_count») (q .method) k, lt-leb (r .objects) (q .object) j, u) refl
+      module _ (j : q .object < objects) where
+        pub not-user : isUserIn users column (q .requestor) ≡ false → notUser ≡ refusalOf loads methods objects users column q
+        unfolding refusalOf
+        not-user u = rw (e, lt-leb methods (q .method) k, lt-leb objects (q .object) j, u) refl
 
-        pub may-ask : isUser r (q .requestor) ≡ true → 0 ≡ questionRefusal r q
-        unfolding questionRefusal
-        may-ask u = rw (e, lt-leb (r .«method_count») (q .method) k, lt-leb (r .objects) (q .object) j, u) refl
+        pub may-ask : isUserIn users column (q .requestor) ≡ true → 0 ≡ refusalOf loads methods objects users column q
+        unfolding refusalOf
+        may-ask u = rw (e, lt-leb methods (q .method) k, lt-leb objects (q .object) j, u) refl
+
+module _ (r : Record) (q : Question) where
+  -- what is answered on the record's columns is who may put a question to the record
+  pub refusal-is : {loads : Bool} {n : ℕ} → loads ≡ loadable r
+      → n ≡ refusalOf loads (r .«method_count») (r .objects) (r .«user_count») (r .«user_objects») q → n ≡ questionRefusal r q
+  unfolding questionRefusal refusalOf
+  refusal-is e h =
+      h
+      ∙ (λ i. first (cause notLoadable (not (e i)) ∷ cause noMethod (leb (r .«method_count») (q .method))
+      ∷ cause noObject (leb (r .objects) (q .object)) ∷ cause notUser (not (user-in r (q .requestor) i)) ∷ []))
+
+  -- where it loads, its users are few
+  pub few-users : {loads : Bool} → loads ≡ loadable r → loads ≡ true → r .«user_count» ≤ mostUsers
+  few-users e t = table-few r user (loadable-table r (sym e ∙ t) user)
 
   -- ---- where the question may be put
 

@@ -1,43 +1,71 @@
 -- Privileges gathered as a number: whose they are, and that they meet the guard where the principals do.
-use Prim.Native.Nat.{ℕ, _^_, _<_}
-use mathlib.Core.Path.{_≡_, refl}
+use Prim.Native.Nat.{ℕ, _^_, _<_, _≤_}
+use mathlib.Core.Path.{_≡_, refl, sym, _∙_}
 use mathlib.Core.Logic.{_↔_}
 use mathlib.Core.Bool.{Bool, true, false, not, cond, _&&_}
 use mathlib.Core.List.{List, [], _∷_}
 use lib.Dec.{eqb}
-use Rattle.common.specs.Limits.{privilegeCount}
+use Rattle.common.specs.Limits.{mostDemarcations, mostPrincipals, privilegeCount}
 use Rattle.common.specs.Lists.{at, any, every}
 use Rattle.common.specs.BoolLaws.{and-cases, and-both, or-left, or-left-only}
 use Rattle.common.specs.QuantifierLaws.{any-table, table-any, some-of, all-of}
 use Rattle.common.specs.Sets.{member, In}
 use Rattle.common.specs.SetLaws.{member-in, in-member, in-lt}
 use Rattle.closure.specs.Closure.{pairsOf, reaches}
+use Rattle.tables.specs.Loads.{pairsLoad}
 use Rattle.policy.specs.declared.Record.{Record}
+use Rattle.policy.specs.Table.{Kind, demarcation, hierarchy, principal}
+use Rattle.policy.specs.Loadable.{tableLoads}
+use Rattle.policy.specs.LoadableLaws.{hierarchy-pairs, table-few}
+use Rattle.policy.specs.NamedLaws.{principal-named}
 use Rattle.search.specs.Steps.{MetBy, Gathers}
-use Rattle.justification.specs.Justification.{demarcationHas, have, listed, meets}
+use Rattle.justification.specs.Justification.{demarcationHas, hasBelow, have, listed, meets}
 use Rattle.justification.specs.declared.Question.{Question}
 use Rattle.justification.specs.Predicates.{isEnabled, enabled}
 use Rattle.justification.specs.MarkedSets.{Marks, Those}
 
 -- what a demarcation has is what those at or below it list
-pub demarcation-gathers : (r : Record) (d s g : ℕ)
-    → Marks (r .«demarcation_count») (λ e. reaches (pairsOf (r .«hierarchy_count») (r .inferiors) (r .superiors)) e d) s
-    → Gathers (r .«demarcation_count») s (r .«demarcation_privileges») g → (k : ℕ) → (In k g ↔ (demarcationHas r d k ≡ true))
-unfolding demarcationHas
-demarcation-gathers r d s g marks gathers k = (
+pub below-gathers : (pairs : List (List ℕ)) (n : ℕ) (lists : List ℕ) (d s g : ℕ) → Marks n (λ e. reaches pairs e d) s
+    → Gathers n s lists g → (k : ℕ) → (In k g ↔ (hasBelow pairs n lists d k ≡ true))
+unfolding hasBelow
+below-gathers pairs n lists d s g marks gathers k = (
   λ i.
       let (e, l, j, q) = gathers .only k i in
-      table-any
-      (λ e. reaches (pairsOf (r .«hierarchy_count») (r .inferiors) (r .superiors)) e d && member k (at (r .«demarcation_privileges») e))
-      (λ (e : ℕ). e) (r .«demarcation_count») e l
-      (and-both _ _ (marks .only e j .1) (in-member q)),
+      table-any (λ e. reaches pairs e d && member k (at lists e)) (λ (e : ℕ). e) n e l (and-both _ _ (marks .only e j .1) (in-member q)),
   λ t.
-      let (e, l, x) = any-table
-      (λ e. reaches (pairsOf (r .«hierarchy_count») (r .inferiors) (r .superiors)) e d && member k (at (r .«demarcation_privileges») e))
-      (λ (e : ℕ). e) (r .«demarcation_count») t in
-      let (y, z) = and-cases (reaches (pairsOf (r .«hierarchy_count») (r .inferiors) (r .superiors)) e d) _ x in
+      let (e, l, x) = any-table (λ e. reaches pairs e d && member k (at lists e)) (λ (e : ℕ). e) n t in
+      let (y, z) = and-cases (reaches pairs e d) _ x in
       gathers .all k e l (marks .all e l y) (member-in z),
 )
+
+-- on a record's columns: what its demarcation has
+pub has-below : (r : Record) (d k : ℕ)
+    → hasBelow (pairsOf (r .«hierarchy_count») (r .inferiors) (r .superiors)) (r .«demarcation_count») (r .«demarcation_privileges») d k
+    ≡ demarcationHas r d k
+unfolding hasBelow demarcationHas
+has-below r d k = refl
+
+-- the columns that privileges are granted by are those of a record that loads
+pub grants-fit : (r : Record) → ((j : Kind) → tableLoads r j ≡ true)
+    → (pairsLoad (r .«demarcation_count») (r .«hierarchy_count») (r .inferiors) (r .superiors) ≡ true)
+    × (r .«demarcation_count» ≤ mostDemarcations) × (r .«principal_count» ≤ mostPrincipals)
+    × ((p : ℕ) → p < r .«principal_count» → at (r .«principal_demarcations») p < r .«demarcation_count»)
+grants-fit r loads = (
+  hierarchy-pairs r ∙ loads hierarchy,
+  table-few r demarcation (loads demarcation),
+  table-few r principal (loads principal),
+  λ p l. principal-named r loads p l .1,
+)
+
+-- privileges that are granted by the columns are those that the record's principals have
+pub granted-below : (r : Record) (grants : List ℕ)
+    → ((p k : ℕ) → p < r .«principal_count» → (In k (at grants p)
+    ↔ (hasBelow (pairsOf (r .«hierarchy_count») (r .inferiors) (r .superiors)) (r .«demarcation_count») (r .«demarcation_privileges»)
+    (at (r .«principal_demarcations») p) k ≡ true)))
+    → (p k : ℕ) → p < r .«principal_count» → (In k (at grants p) ↔ (demarcationHas r (at (r .«principal_demarcations») p) k ≡ true))
+granted-below r grants h p k l =
+    let e = has-below r (at (r .«principal_demarcations») p) k in
+    (λ i. sym e ∙ h p k l .0 i, λ t. h p k l .1 (e ∙ t))
 
 -- the guard of method m, which lists privileges below that count: g need tell only of those
 module _ (r : Record) (m : ℕ) (bounded : at (r .«method_privileges») m < 2 ^ privilegeCount) (ps : List ℕ) (g : ℕ)

@@ -24,6 +24,10 @@ inferior r e d = reaches (rows hierarchy r) e d
 unfoldable pub demarcationHas : Record → ℕ → ℕ → Bool
 demarcationHas r d k = any (λ e. inferior r e d && member k (at (r .«demarcation_privileges») e)) (below (r .«demarcation_count»))
 
+-- the same on columns: the pairs of the hierarchy, the count of demarcations and what each lists
+unfoldable pub hasBelow : List (List ℕ) → ℕ → List ℕ → ℕ → ℕ → Bool
+hasBelow pairs n lists d k = any (λ e. reaches pairs e d && member k (at lists e)) (below n)
+
 -- principals ps have privilege k: the demarcation of some of them has
 unfoldable pub have : Record → List ℕ → ℕ → Bool
 have r ps k = any (λ p. demarcationHas r (at (r .«principal_demarcations») p) k) ps

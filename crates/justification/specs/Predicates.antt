@@ -28,6 +28,16 @@ questionRefusal r q =
     ∷ cause notUser (not (isUser r (q .requestor)))
     ∷ [])
 
+-- the same on what it reads: whether the record loads, its counts of methods, objects and users, and the column of the users' objects
+unfoldable pub refusalOf : Bool → ℕ → ℕ → ℕ → List ℕ → Question → ℕ
+refusalOf loads methods objects users column q =
+    first
+    (cause notLoadable (not loads)
+    ∷ cause noMethod (leb methods (q .method))
+    ∷ cause noObject (leb objects (q .object))
+    ∷ cause notUser (not (isUserIn users column (q .requestor)))
+    ∷ [])
+
 -- principal p is enabled: its formula is true at the object, evaluated afresh
 unfoldable pub isEnabled : Record → Question → ℕ → Bool
 isEnabled r q p = holds r (at (r .«principal_formulas») p) (q .object) (q .object) (q .requestor)

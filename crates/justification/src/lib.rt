@@ -1,4 +1,4 @@
-// Grounds and guards: what each principal excludes, needs and gives; the least set that will do; who may put a question.
+// Grounds and guards: what each principal excludes, needs and gives; who may put a question.
 
 ghost use mathlib.Core.Path.{_≡_};
 ghost use mathlib.Core.Bool.{true, false, cond};
@@ -7,26 +7,23 @@ ghost use mathlib.Core.List.{[]};
 ghost use Prim.Native.Nat.{ℕ, _^_, _≤_, _<_};
 ghost use lib.Bits.{bitOr};
 ghost use lib.ListN.{getD};
-ghost use Rattle.common.specs.Limits.{mostUsers, mostPrincipals, mostExclusions, privilegeCount};
+ghost use Rattle.common.specs.Limits.{mostUsers, mostDemarcations, mostPrincipals, mostExclusions, privilegeCount};
 ghost use Rattle.common.specs.Lists.{at};
-ghost use Rattle.common.specs.Sets.{member, In};
+ghost use Rattle.common.specs.Sets.{In};
 ghost use Rattle.closure.specs.Closure.{pairsOf, reaches};
 ghost use Rattle.tables.specs.Loads.{pairsLoad};
 ghost use Rattle.policy.specs.Table.{Kind};
 ghost use Rattle.policy.specs.Loadable.{tableLoads};
-ghost use Rattle.policy.specs.Loadable as validity;
-ghost use Rattle.search.specs.Answers.{foundValues};
-ghost use Rattle.justification.specs.Justification.{demarcationHas};
-ghost use Rattle.justification.specs.Justification as justification;
-ghost use Rattle.justification.specs.Masked.{AmongPairs, Masked, leastValues};
-ghost use Rattle.justification.specs.Predicates.{isUserIn, questionRefusal};
+ghost use Rattle.justification.specs.Justification.{hasBelow};
+ghost use Rattle.justification.specs.Masked.{AmongPairs, Masked};
+ghost use Rattle.justification.specs.Predicates.{isUserIn, refusalOf};
 ghost use Rattle.justification.specs.MarkedSets.{Marks};
+use common::MOST_DEMARCATIONS;
 use common::MOST_EXCLUSIONS;
 use common::MOST_PAIRS;
 use common::MOST_PRINCIPALS;
 use common::MOST_USERS;
 use policy::Record;
-use search::Found;
 use search::Masks;
 
 // A question names method, object, requestor.
@@ -102,37 +99,44 @@ fn column_sets(c: [[bool; MOST_PRINCIPALS]; MOST_PRINCIPALS], n: usize) -> [u32;
 }
 
 // For each of so many things those that come to it by steps along the pairs, none or more.
-fn leading_to(
+fn leading_to<'a>(
     things: usize,
     count: usize,
-    firsts: [u8; MOST_PAIRS],
-    seconds: [u8; MOST_PAIRS],
+    firsts: &'a [u8; MOST_PAIRS],
+    seconds: &'a [u8; MOST_PAIRS],
 ) -> [u32; MOST_PRINCIPALS]
-    requires { ⌜ (pairsLoad things count firsts seconds ≡ true) × (things ≤ mostPrincipals) ⌝ }
-    ensures { λ r. ⌜ ((j : ℕ) → j < things → Marks things (λ i. reaches (pairsOf count firsts seconds) i j) (at r j)) ⌝ }
+    requires { ⌜ (pairsLoad things count (now firsts) (now seconds) ≡ true) × (things ≤ mostPrincipals) ⌝ }
+    ensures { λ r. ⌜ ((j : ℕ) → j < things
+        → Marks things (λ i. reaches (pairsOf count (now (firsts .entry)) (now (seconds .entry))) i j) (at r j)) ⌝ }
 {
-    let relation = closure::related(&firsts, &seconds, count);
+    let relation = closure::related(firsts, seconds, count);
     let closed = closure::closed(relation, things);
     column_sets(closed, things)
 }
 
-// The privileges of each principal: those that its demarcation lists, or one below it.
-pub fn grants_of(rules: Record) -> [u64; MOST_PRINCIPALS]
-    requires { ⌜ ((j : Kind) → tableLoads rules j ≡ true) ⌝ }
-    ensures { λ r. ⌜ ((p k : ℕ) → p < rules .«principal_count»
-        → (In k (at r p) ↔ (demarcationHas rules (at (rules .«principal_demarcations») p) k ≡ true))) ⌝ }
+// The privileges of each principal: those that its demarcation lists, or one below it. The columns are lent.
+pub fn grants_of<'a>(
+    demarcations: usize,
+    lists: &'a [u64; MOST_DEMARCATIONS],
+    pairs: usize,
+    inferiors: &'a [u8; MOST_PAIRS],
+    superiors: &'a [u8; MOST_PAIRS],
+    principals: usize,
+    held: &'a [u8; MOST_PRINCIPALS],
+) -> [u64; MOST_PRINCIPALS]
+    requires { ⌜ (pairsLoad demarcations pairs (now inferiors) (now superiors) ≡ true) × (demarcations ≤ mostDemarcations)
+        × (principals ≤ mostPrincipals) × ((p : ℕ) → p < principals → at (now held) p < demarcations) ⌝ }
+    ensures { λ r. ⌜ ((p k : ℕ) → p < principals → (In k (at r p)
+        ↔ (hasBelow (pairsOf pairs (now (inferiors .entry)) (now (superiors .entry))) demarcations (now (lists .entry))
+        (at (now (held .entry)) p) k ≡ true))) ⌝ }
 {
-    let demarcations = rules.demarcation_count;
-    let inferiors = rules.inferiors;
-    let superiors = rules.superiors;
-    let below = leading_to(demarcations, rules.hierarchy_count, inferiors, superiors);
-    let lists = rules.demarcation_privileges;
-    let n = rules.principal_count;
+    let below = leading_to(demarcations, pairs, inferiors, superiors);
+    let listed = *lists;
     let mut grants = [0u64; MOST_PRINCIPALS];
     let mut p: usize = 0;
-    while p < n {
-        let d = index(rules.principal_demarcations[p]);
-        let g = search::gathered(demarcations, below[d], lists);
+    while p < principals {
+        let d = index(held[p]);
+        let g = search::gathered(demarcations, below[d], listed);
         grants[p] = g;
         p += 1;
     }
@@ -188,10 +192,21 @@ pub fn masks_of(rules: Record, method: usize, allowed: u32) -> Masks
         &rules.exclusion_lows,
         &rules.exclusion_highs,
     );
-    let needed = rules.prerequisites;
-    let needing = rules.dependents;
-    let needs = leading_to(principals, rules.prerequisite_count, needed, needing);
-    let grants = grants_of(rules);
+    let needs = leading_to(
+        principals,
+        rules.prerequisite_count,
+        &rules.prerequisites,
+        &rules.dependents,
+    );
+    let grants = grants_of(
+        rules.demarcation_count,
+        &rules.demarcation_privileges,
+        rules.hierarchy_count,
+        &rules.inferiors,
+        &rules.superiors,
+        principals,
+        &rules.principal_demarcations,
+    );
     let wanted = listed(rules.method_privileges[method]);
     Masks {
         count: principals,
@@ -202,15 +217,6 @@ pub fn masks_of(rules: Record, method: usize, allowed: u32) -> Masks
         every: rules.method_forms[method] != 0,
         wanted: wanted,
     }
-}
-
-// The least consistent set of allowed principals that meets the guard of a method.
-pub fn least(rules: Record, method: usize, allowed: u32) -> Found
-    requires { ⌜ ((j : Kind) → tableLoads rules j ≡ true) × (method < rules .«method_count») ⌝ }
-    ensures { λ r. ⌜ foundValues r ≡ leastValues (justification.least rules method (λ p. member p allowed)) ⌝ }
-{
-    let masks = masks_of(rules, method, allowed);
-    search::least(masks)
 }
 
 // ---- questions
@@ -229,21 +235,29 @@ fn is_user<'a>(count: usize, objects: &'a [u8; MOST_USERS], s: u8) -> bool
     found
 }
 
-// 19, 14, 15 or 16; 0 where the question may be put. It is known whether some bundle loads to the record.
-pub fn question_refusal(rules: Record, loads: bool, question: Question) -> u8
-    requires { ⌜ loads ≡ validity.loadable rules ⌝ }
-    ensures { λ r. ⌜ r ≡ questionRefusal rules question ⌝ }
+// 19, 14, 15 or 16; 0 where the question may be put. It is known whether some bundle loads to the record; of it the column of the
+// users' objects is lent.
+pub fn question_refusal<'a>(
+    loads: bool,
+    methods: usize,
+    objects: u8,
+    users: usize,
+    user_objects: &'a [u8; MOST_USERS],
+    question: Question,
+) -> u8
+    requires { ⌜ (loads ≡ true → users ≤ mostUsers) ⌝ }
+    ensures { λ r. ⌜ r ≡ refusalOf loads methods objects users (now («user_objects» .entry)) question ⌝ }
 {
     if !loads {
         return common::NOT_LOADABLE;
     }
-    if rules.method_count <= (question.method as usize) {
+    if methods <= (question.method as usize) {
         return common::NO_METHOD;
     }
-    if rules.objects <= question.object {
+    if objects <= question.object {
         return common::NO_OBJECT;
     }
-    if !is_user(rules.user_count, &rules.user_objects, question.requestor) {
+    if !is_user(users, user_objects, question.requestor) {
         return common::NOT_USER;
     }
     common::ACCEPTED

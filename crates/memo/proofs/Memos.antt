@@ -103,3 +103,7 @@ evaluated-more truth r m p e d h =
     ∙ (λ i. evaluated truth (e i) (d i))
     ∙ sym (evaluated-append truth r m (below p) p)
     ∙ ap (λ (n : ℕ). evaluatedAll truth r m (below n)) (sym (add-one p))
+
+pub evaluated-end : (truth : ℕ → Bool) (r : Record) (m : Memo) {k : Memo} {p n : ℕ} → p ≡ n → k ≡ evaluatedAll truth r m (below p)
+    → k ≡ evaluatedAll truth r m (below n)
+evaluated-end truth r m e h = h ∙ ap (λ (i : ℕ). evaluatedAll truth r m (below i)) e

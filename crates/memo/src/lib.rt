@@ -1,26 +1,24 @@
 // The memo of a record, and the steps of the two questions on it: what is evaluated and entered, member by member or all at once.
 
 ghost use mathlib.Core.Path.{_≡_};
-ghost use mathlib.Core.Bool.{true, not, cond, _&&_};
-ghost use Prim.Native.Nat.{ℕ, _≤_, _<_};
-ghost use Rattle.common.specs.Limits.{mostEdges, mostFormulas, mostPrincipals};
+ghost use mathlib.Core.Bool.{not, cond, _&&_};
+ghost use Prim.Native.Nat.{_≤_, _<_};
+ghost use Rattle.common.specs.Limits.{mostEdges, mostFormulas};
 ghost use Rattle.common.specs.Lists.{at, below};
-ghost use Rattle.policy.specs.Table.{Kind};
-ghost use Rattle.policy.specs.Loadable.{tableLoads};
-ghost use Rattle.formula.specs.Formula.{trueBelow};
-ghost use Rattle.formula.specs.Evaluation.{formulasIn, edgesIn, contextOf, trueAtObject};
+ghost use Rattle.policy.specs.declared.Record as records;
+ghost use Rattle.formula.specs.Evaluation.{formulasIn, edgesIn, contextOf};
 ghost use Rattle.justification.specs.Justification.{members};
 ghost use Rattle.justification.specs.MarkedSets.{Marks};
 ghost use Rattle.memo.specs.Memo.{known, value, memoFor};
 ghost use Rattle.memo.specs.Memo as memos;
 ghost use Rattle.memo.specs.Walk.{evaluatedAll, tried, weighedOf};
+ghost use Rattle.memo.specs.Lent.{FormulasFit, Principals, truthIn};
 ghost use Rattle.memo.specs.WalkLaws.{MemoLengths};
 use common::MOST_EDGES;
 use common::MOST_FORMULAS;
 use common::MOST_PRINCIPALS;
 use justification::Question;
 use policy::Memo;
-use policy::Record;
 
 // What weighing a candidate came to: whether all its members are enabled, and the memo as it then is.
 pub struct Tried {
@@ -57,10 +55,9 @@ fn evaluated<'a>(
     f: usize,
 ) -> Memo
     requires { ⌜ («edge_count» ≤ mostEdges) × (f < mostFormulas) ⌝ }
-    ensures { λ r. ⌜ r ≡ memos.evaluated
-        (λ g. trueBelow (formulasIn (now (ops .entry)) (now (lefts .entry)) (now (rights .entry)))
-        (contextOf roles object requestor (edgesIn «edge_count» (now (labels .entry)) (now (sources .entry)) (now (targets .entry))))
-        mostFormulas g object) memo f ⌝ }
+    ensures { λ r. ⌜ r ≡ memos.evaluated (truthIn (contextOf roles object requestor
+        (edgesIn «edge_count» (now (labels .entry)) (now (sources .entry)) (now (targets .entry))))
+        (formulasIn (now (ops .entry)) (now (lefts .entry)) (now (rights .entry)))) memo f ⌝ }
 {
     if memo.known[f] {
         return memo;
@@ -115,28 +112,41 @@ fn index(x: u8) -> usize
     x as usize
 }
 
-// Each principal in rising number has its formula evaluated, unless known.
-pub fn evaluated_all(rules: Record, memo: Memo, roles: u16, question: Question) -> Memo
-    requires { ⌜ ((j : Kind) → tableLoads rules j ≡ true) ⌝ }
-    ensures { λ r. ⌜ r ≡ evaluatedAll (trueAtObject rules roles (question .object) (question .requestor)) rules memo
-        (below (rules .«principal_count»)) ⌝ }
+// Each of so many principals in rising number has its formula evaluated, unless known. The columns are lent.
+pub fn evaluated_all<'a>(
+    memo: Memo,
+    edge_count: usize,
+    labels: &'a [u8; MOST_EDGES],
+    sources: &'a [u8; MOST_EDGES],
+    targets: &'a [u8; MOST_EDGES],
+    ops: &'a [u8; MOST_FORMULAS],
+    lefts: &'a [u8; MOST_FORMULAS],
+    rights: &'a [u8; MOST_FORMULAS],
+    count: usize,
+    formulas: &'a [u8; MOST_PRINCIPALS],
+    roles: u16,
+    object: u8,
+    requestor: u8,
+) -> Memo
+    requires { ⌜ («edge_count» ≤ mostEdges) × FormulasFit count (now formulas) ⌝ }
+    ensures { λ r. ⌜ ((rules : records.Record) → Principals count (now (formulas .entry)) rules
+        → r ≡ evaluatedAll (truthIn (contextOf roles object requestor
+        (edgesIn «edge_count» (now (labels .entry)) (now (sources .entry)) (now (targets .entry))))
+        (formulasIn (now (ops .entry)) (now (lefts .entry)) (now (rights .entry)))) rules memo (below count)) ⌝ }
 {
-    let count = rules.principal_count;
-    let object = question.object;
-    let requestor = question.requestor;
     let mut m = memo;
     let mut p: usize = 0;
     while p < count {
-        let f = index(rules.principal_formulas[p]);
+        let f = index(formulas[p]);
         let more = evaluated(
             m,
-            rules.edge_count,
-            &rules.edge_labels,
-            &rules.edge_sources,
-            &rules.edge_targets,
-            &rules.formula_ops,
-            &rules.formula_lefts,
-            &rules.formula_rights,
+            edge_count,
+            labels,
+            sources,
+            targets,
+            ops,
+            lefts,
+            rights,
             roles,
             object,
             requestor,
@@ -150,7 +160,7 @@ pub fn evaluated_all(rules: Record, memo: Memo, roles: u16, question: Question) 
 
 // Of so many principals, whose formulas are lent, those with the value true in the memo.
 pub fn valued<'a>(count: usize, formulas: &'a [u8; MOST_PRINCIPALS], memo: Memo) -> u32
-    requires { ⌜ (count ≤ mostPrincipals) × ((p : ℕ) → p < count → at (now formulas) p < mostFormulas) ⌝ }
+    requires { ⌜ FormulasFit count (now formulas) ⌝ }
     ensures { λ r. ⌜ Marks count (λ p. value memo (at (now (formulas .entry)) p)) r ⌝ }
 {
     let mut s: u32 = 0;
@@ -166,7 +176,7 @@ pub fn valued<'a>(count: usize, formulas: &'a [u8; MOST_PRINCIPALS], memo: Memo)
 
 // Of so many principals, whose formulas are lent, those that are not known false.
 pub fn not_known_false<'a>(count: usize, formulas: &'a [u8; MOST_PRINCIPALS], memo: Memo) -> u32
-    requires { ⌜ (count ≤ mostPrincipals) × ((p : ℕ) → p < count → at (now formulas) p < mostFormulas) ⌝ }
+    requires { ⌜ FormulasFit count (now formulas) ⌝ }
     ensures { λ r. ⌜ Marks count
         (λ p. not (known memo (at (now (formulas .entry)) p) && not (value memo (at (now (formulas .entry)) p)))) r ⌝ }
 {
@@ -181,31 +191,45 @@ pub fn not_known_false<'a>(count: usize, formulas: &'a [u8; MOST_PRINCIPALS], me
     s
 }
 
-// The members of c in rising number are evaluated, unless known; the first that is not enabled ends it.
-pub fn weigh(rules: Record, memo: Memo, roles: u16, question: Question, c: u32) -> Tried
-    requires { ⌜ ((j : Kind) → tableLoads rules j ≡ true) ⌝ }
-    ensures { λ r. ⌜ weighedOf r
-        ≡ tried (trueAtObject rules roles (question .object) (question .requestor)) rules memo (members rules c) ⌝ }
+// The members of c in rising number are evaluated, unless known; the first that is not enabled ends it. The columns are lent.
+pub fn weigh<'a>(
+    memo: Memo,
+    edge_count: usize,
+    labels: &'a [u8; MOST_EDGES],
+    sources: &'a [u8; MOST_EDGES],
+    targets: &'a [u8; MOST_EDGES],
+    ops: &'a [u8; MOST_FORMULAS],
+    lefts: &'a [u8; MOST_FORMULAS],
+    rights: &'a [u8; MOST_FORMULAS],
+    count: usize,
+    formulas: &'a [u8; MOST_PRINCIPALS],
+    roles: u16,
+    object: u8,
+    requestor: u8,
+    c: u32,
+) -> Tried
+    requires { ⌜ («edge_count» ≤ mostEdges) × FormulasFit count (now formulas) ⌝ }
+    ensures { λ r. ⌜ ((rules : records.Record) → Principals count (now (formulas .entry)) rules
+        → weighedOf r ≡ tried (truthIn (contextOf roles object requestor
+        (edgesIn «edge_count» (now (labels .entry)) (now (sources .entry)) (now (targets .entry))))
+        (formulasIn (now (ops .entry)) (now (lefts .entry)) (now (rights .entry)))) rules memo (members rules c)) ⌝ }
 {
-    let count = rules.principal_count;
-    let object = question.object;
-    let requestor = question.requestor;
     let mut m = memo;
     let mut p: usize = 0;
     while p < count {
         let member = p;
         p += 1;
         if search::has(c, member) {
-            let f = index(rules.principal_formulas[member]);
+            let f = index(formulas[member]);
             let more = evaluated(
                 m,
-                rules.edge_count,
-                &rules.edge_labels,
-                &rules.edge_sources,
-                &rules.edge_targets,
-                &rules.formula_ops,
-                &rules.formula_lefts,
-                &rules.formula_rights,
+                edge_count,
+                labels,
+                sources,
+                targets,
+                ops,
+                lefts,
+                rights,
                 roles,
                 object,
                 requestor,

@@ -96,7 +96,14 @@ pub fn liberal_given(rules: Record, loads: bool, question: Question) -> Verdict
     requires { ⌜ loads ≡ validity.loadable rules ⌝ }
     ensures { λ r. ⌜ r ≡ spec.liberal rules question ⌝ }
 {
-    let number = justification::question_refusal(rules, loads, question);
+    let number = justification::question_refusal(
+        loads,
+        rules.method_count,
+        rules.objects,
+        rules.user_count,
+        &rules.user_objects,
+        question,
+    );
     if number != 0 {
         return Verdict {
             number: number,
@@ -105,7 +112,15 @@ pub fn liberal_given(rules: Record, loads: bool, question: Question) -> Verdict
     }
     let m = index(question.method);
     let wanted = justification::listed(rules.method_privileges[m]);
-    let grants = justification::grants_of(rules);
+    let grants = justification::grants_of(
+        rules.demarcation_count,
+        &rules.demarcation_privileges,
+        rules.hierarchy_count,
+        &rules.inferiors,
+        &rules.superiors,
+        rules.principal_count,
+        &rules.principal_demarcations,
+    );
     let givers = meeting(rules.principal_count, grants, false, wanted);
     let enabled = enabled_of(rules, question, givers);
     let given = search::gathered(rules.principal_count, enabled, grants);
@@ -129,7 +144,14 @@ pub fn strict_given(rules: Record, loads: bool, question: Question) -> Verdict
     requires { ⌜ loads ≡ validity.loadable rules ⌝ }
     ensures { λ r. ⌜ r ≡ spec.strict rules question ⌝ }
 {
-    let number = justification::question_refusal(rules, loads, question);
+    let number = justification::question_refusal(
+        loads,
+        rules.method_count,
+        rules.objects,
+        rules.user_count,
+        &rules.user_objects,
+        question,
+    );
     if number != 0 {
         return Verdict {
             number: number,
@@ -138,7 +160,15 @@ pub fn strict_given(rules: Record, loads: bool, question: Question) -> Verdict
     }
     let m = index(question.method);
     let wanted = justification::listed(rules.method_privileges[m]);
-    let grants = justification::grants_of(rules);
+    let grants = justification::grants_of(
+        rules.demarcation_count,
+        &rules.demarcation_privileges,
+        rules.hierarchy_count,
+        &rules.inferiors,
+        &rules.superiors,
+        rules.principal_count,
+        &rules.principal_demarcations,
+    );
     let able = meeting(
         rules.principal_count,
         grants,

@@ -4,7 +4,10 @@ use mathlib.Core.Path.{_≡_, sym, _∙_, ap}
 use borrow.Author.Tests.{ne-eqb}
 use Rattle.common.specs.Refusals.{wrongKind}
 use Rattle.policy.specs.declared.Record.{Record}
+use Rattle.policy.specs.declared.Memo.{Memo}
+use Rattle.policy.specs.Table.{withMemo}
 use Rattle.access.specs.declared.Answer.{Answer}
+use Rattle.access.specs.Access.{leaves}
 use Rattle.replay.specs.Replay.{listedCallOf, answerTo}
 
 -- of the kind k
@@ -19,3 +22,9 @@ pub no-answer-case : (r : Record) (kind a b c : ℕ) → (kind ≡ 0 → ⊥) �
 unfolding answerTo
 no-answer-case r kind a b c e f g h i j =
     rw (ne-eqb kind 0 e, ne-eqb kind 1 f, ne-eqb kind 2 g, ne-eqb kind 3 h, ne-eqb kind 4 i, ne-eqb kind 5 j)
+
+-- a decision that leaves the memo as it is leaves the record
+pub stays : (r : Record) (n : ℕ) {s set : ℕ} {m : Memo} → s ≡ set → m ≡ r .memo
+    → leaves r (record { number = n; set = s; evaluations = 0; memo = m }) ≡ record { number = n; set = set; evaluations = 0; rules = r }
+unfolding withMemo
+stays r n d e = λ i. record { number = n; set = d i; evaluations = 0; rules = withMemo r (e i) }

@@ -1,13 +1,16 @@
 -- The loop of `answer_all`: the answers so far stand first, and the rest of the buffer is as it was.
 use Prim.Native.Nat.{ℕ, _+_, _*_, _≤_, _<_}
 use mathlib.Core.Path.{_≡_, refl, sym, _∙_, ap}
+use mathlib.Core.Bool.{Bool}
 use mathlib.Core.List.{List, _++_, append-assoc}
 use native.Mathlib.Omega.{arith}
 use native.Mathlib.Numerals.{add-one}
 use lib.ListN.{length, take, drop, length-append, length-drop}
 use lib.Seq.{take-append-seam, drop-append-add, drop-drop}
 use Rattle.policy.specs.declared.Record.{Record}
+use Rattle.policy.specs.Loadable.{loadable}
 use Rattle.access.specs.declared.Answer.{Answer}
+use Rattle.replay.specs.LoadLaws.{answer-loads}
 use Rattle.replay.specs.AnswerLaws.{length-replies}
 use Rattle.replay.specs.Replay.{answerTo, answerOctets, listedCallAt, leftAfter, replies, answeredCount, bufferAfter}
 
@@ -71,6 +74,15 @@ module _ {calls buffer₀ : List ℕ} {r₀ : Record} {n : ℕ} {buffer : List �
       later =
           let k : 5 * i + 5 ≡ length (replies r₀ calls i) + 5 = omega (arith, length-replies r₀ calls i) in
           (λ j. drop (k j) (w .bytes j)) ∙ drop-append-add (replies r₀ calls i) (drop (5 * i) buffer₀) 5 ∙ drop-drop 5 (5 * i) buffer₀
+
+  -- and whether some bundle loads to the record is as it was
+  pub replaying-on : (got : Answer) {after : List ℕ} {loads : Bool} → i < n → loads ≡ loadable r → got ≡ answerTo r (listedCallAt calls i)
+      → after ≡ take (5 * i) buffer ++ (answerOctets got ++ drop (5 * i + 5) buffer)
+      → Replaying calls buffer₀ r₀ n after (got .rules) (i + 1) × (loads ≡ loadable (got .rules))
+  replaying-on got l e told f = (
+    replaying-more got l told f,
+    e ∙ sym (ap (λ (x : Answer). loadable (x .rules)) told ∙ answer-loads r (listedCallAt calls i)),
+  )
 
   pub replaying-end : n ≤ i → n ≡ answeredCount calls buffer₀ → buffer ≡ bufferAfter r₀ calls buffer₀
   unfolding bufferAfter

@@ -6,14 +6,18 @@ ghost use mathlib.Core.List.{[], _∷_, _++_};
 ghost use Prim.Native.Nat.{_+_, _/_, _≤_, min};
 ghost use lib.ListN.{length, take, drop};
 ghost use Rattle.octets.specs.Number.{inOctets};
+ghost use Rattle.policy.specs.declared.Record as records;
 ghost use Rattle.policy.specs.Loadable as validity;
 ghost use Rattle.policy.specs.Typed.{Typed};
+ghost use Rattle.access.specs.Access.{leaves};
 ghost use Rattle.replay.specs.Replay.{listedCallOf, questionOf, editAnswer, verdictAnswer, answerTo};
 ghost use Rattle.replay.specs.Replay.{answeredCount, bufferAfter, replayed};
 use access::Answer;
+use access::Decision;
 use justification::Question;
 use justification::Verdict;
 use policy::Edited;
+use policy::Memo;
 use policy::Record;
 
 // An edit's answer: no set, no evaluation.
@@ -29,23 +33,23 @@ fn edit_answer(edited: Edited) -> Answer
     }
 }
 
-// A predicate's answer: 1 for yes; the record stays.
-fn verdict_answer(rules: Record, verdict: Verdict) -> Answer
-    ensures { λ r. ⌜ r ≡ verdictAnswer rules verdict ⌝ }
+// What a predicate comes to: 1 for yes; the memo stays.
+fn verdict_decision(memo: Memo, verdict: Verdict) -> Decision
+    ensures { λ r. ⌜ ((rules : records.Record) → memo ≡ rules .memo → leaves rules r ≡ verdictAnswer rules verdict) ⌝ }
 {
     if verdict.yes {
-        return Answer {
+        return Decision {
             number: verdict.number,
             set: 1,
             evaluations: 0,
-            rules: rules,
+            memo: memo,
         };
     }
-    Answer {
+    Decision {
         number: verdict.number,
         set: 0,
         evaluations: 0,
-        rules: rules,
+        memo: memo,
     }
 }
 
@@ -76,21 +80,27 @@ fn answer_given(rules: Record, loads: bool, kind: u8, a: u8, b: u8, c: u8) -> An
     match kind {
         0 => edit_answer(rules.add_edge_given(loads, a, b, c)),
         1 => edit_answer(rules.remove_edge_given(loads, a, b, c)),
-        2 => access::ask_eager_given(rules, loads, question_of(a, b, c)),
-        3 => access::ask_lazy_given(rules, loads, question_of(a, b, c)),
-        4 => verdict_answer(
-            rules,
-            predicates::liberal_given(rules, loads, question_of(a, b, c)),
-        ),
-        5 => verdict_answer(
-            rules,
-            predicates::strict_given(rules, loads, question_of(a, b, c)),
-        ),
-        6..=255 => Answer {
+        _ => access::answer_of(rules, decision_of(rules, loads, kind, a, b, c)),
+    }
+}
+
+// What a call comes to that is no edit: 2 eager, 3 lazy, 4 liberal, 5 strict; a kind above 5 is answered with 4.
+fn decision_of(rules: Record, loads: bool, kind: u8, a: u8, b: u8, c: u8) -> Decision
+    requires { ⌜ (loads ≡ validity.loadable rules) × (2 ≤ kind) ⌝ }
+    ensures { λ r. ⌜ leaves rules r ≡ answerTo rules (listedCallOf kind a b c) ⌝ }
+{
+    let question = question_of(a, b, c);
+    let memo = rules.memo;
+    match kind {
+        2 => access::decide_eagerly(rules, loads, question),
+        3 => access::decide_lazily(rules, loads, question),
+        4 => verdict_decision(memo, predicates::liberal_given(rules, loads, question)),
+        5 => verdict_decision(memo, predicates::strict_given(rules, loads, question)),
+        _ => Decision {
             number: common::WRONG_KIND,
             set: 0,
             evaluations: 0,
-            rules: rules,
+            memo: memo,
         },
     }
 }
@@ -138,18 +148,30 @@ pub fn answer_all(rules: Record, calls: &[u8], answers: &mut [u8]) -> Replayed
     let mut i: usize = 0;
     while i < n {
         let at = 4 * i;
-        let got = answer_given(
-            r,
-            loads,
-            calls[at],
-            calls[at + 1],
-            calls[at + 2],
-            calls[at + 3],
-        );
-        put_answer(answers, 5 * i, got.number, got.set, got.evaluations);
-        let left = got.rules;
-        r = left;
+        let place = 5 * i;
+        let kind = calls[at];
+        let a = calls[at + 1];
+        let b = calls[at + 2];
+        let c = calls[at + 3];
         i += 1;
+        match kind {
+            0 => {
+                let e = r.add_edge_given(loads, a, b, c);
+                put_answer(answers, place, e.number, 0, 0);
+                r = e.rules;
+            }
+            1 => {
+                let e = r.remove_edge_given(loads, a, b, c);
+                put_answer(answers, place, e.number, 0, 0);
+                r = e.rules;
+            }
+            _ => {
+                let d = decision_of(r, loads, kind, a, b, c);
+                put_answer(answers, place, d.number, d.set, d.evaluations);
+                let memo = d.memo;
+                r.memo = memo;
+            }
+        }
     }
     Replayed { count: n, rules: r }
 }

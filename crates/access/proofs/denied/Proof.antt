@@ -8,7 +8,7 @@ newly-requires : tie.Need-newly-requires
 newly-requires c κs = search needs
 
 returns : tie.Need-returns
-returns c = let s = c .before in denied-is (s .args .rules) (s .args .before) (s .args .after) (c .newly .ensures)
+returns c = λ r. let s = c .before in denied-is r (s .args .before) (s .args .after) (c .newly .ensures)
 
 pub denied-spec : {M : Type 1} → statement M
 denied-spec = tie.close (tie.spec newly-requires returns)

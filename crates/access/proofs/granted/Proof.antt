@@ -8,7 +8,7 @@ newly-requires : tie.Need-newly-requires
 newly-requires c κs = search needs
 
 returns : tie.Need-returns
-returns c = let s = c .before in granted-is (s .args .rules) (s .args .before) (s .args .after) (c .newly .ensures) (s .args .set)
+returns c = λ r. let s = c .before in granted-is r (s .args .before) (s .args .after) (c .newly .ensures) (s .args .set)
 
 pub granted-spec : {M : Type 1} → statement M
 granted-spec = tie.close (tie.spec newly-requires returns)

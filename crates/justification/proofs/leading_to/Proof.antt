@@ -15,8 +15,8 @@ column-sets-requires c κs = search needs
 
 returns : tie.Need-returns
 returns c =
-    let s = c .before .before .before .before .before in
-    leading (s .args .things) (s .args .count) (s .args .t3) (s .args .t4) (c .before .before .related .result)
+    let s = c .before .before .before in
+    leading (s .args .things) (s .args .count) (s .args .firsts .now) (s .args .seconds .now) (c .before .before .related .result)
     (c .before .closed .result) (c .«column-sets» .result) (s .pre .0) (s .pre .1)
     (c .before .before .related .ensures) (c .before .closed .ensures) (c .«column-sets» .ensures)
 

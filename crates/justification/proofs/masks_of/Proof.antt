@@ -5,11 +5,15 @@ use borrow.Author.Needs.{needs}
 use Rattle.policy.specs.Table.{principal, exclusion, prerequisite, method}
 use Rattle.policy.specs.LoadableLaws.{prerequisite-pairs, table-few}
 use Rattle.policy.specs.NamedLaws.{exclusion-named}
+use Rattle.justification.specs.GuardLaws.{grants-fit, granted-below}
 use Rattle.justification.proofs.masks_of.Statement.{statement}
 use Rattle.justification.proofs.masks_of.Tie as tie
 
 -- the places passed, from the masks back to the function's entry
-abbrev exclusions-made : tie.After-grants-of → tie.After-excludes-of
+abbrev needs-made : tie.After-grants-of → tie.After-leading-to
+needs-made c = c .before .before .before .before .before .before
+
+abbrev exclusions-made : tie.After-leading-to → tie.After-excludes-of
 exclusions-made c = c .before .before .before .before
 
 abbrev entry : tie.After-excludes-of → tie.Start
@@ -22,42 +26,47 @@ excludes-of-requires c κs =
 
 leading-to-requires : tie.Need-leading-to-requires
 leading-to-requires c κs =
-    let s = entry (c .before .before) in
+    let s = entry (c .before .before .before) in
     (prerequisite-pairs (s .args .t1) ∙ s .pre .0 prerequisite, table-few (s .args .t1) principal (s .pre .0 principal))
 
 grants-of-requires : tie.Need-grants-of-requires
-grants-of-requires c κs = entry (c .before .before .before) .pre .0
+grants-of-requires c κs =
+    let s = entry (exclusions-made (c .before .before .before .before .before)) in grants-fit (s .args .t1) (s .pre .0)
+
+-- the function's entry, from the privileges of the principals
+abbrev start : tie.After-grants-of → tie.Start
+start c = entry (exclusions-made (needs-made c))
 
 mul-listed : tie.Need-mul-listed
-mul-listed c = let s = entry (exclusions-made c) in let n = table-few _ method (s .pre .0 method) in omega (arith, s .pre .1)
+mul-listed c = let s = start c in let n = table-few _ method (s .pre .0 method) in omega (arith, s .pre .1)
 
 element-copy-out-listed : tie.Need-element-copy-out-listed
-element-copy-out-listed c = let s = entry (exclusions-made c) in let n = table-few _ method (s .pre .0 method) in omega (arith, s .pre .1)
+element-copy-out-listed c = let s = start c in let n = table-few _ method (s .pre .0 method) in omega (arith, s .pre .1)
 
 listed-requires : tie.Need-listed-requires
 listed-requires c κs = search needs
 
-element-copy-out-t21 : tie.Need-element-copy-out-t21
-element-copy-out-t21 c =
-    let s = entry (exclusions-made (c .before .before)) in
+element-copy-out-t25 : tie.Need-element-copy-out-t25
+element-copy-out-t25 c =
+    let s = start (c .before .before) in
     let n = table-few _ method (s .pre .0 method) in
     omega (arith, s .pre .1)
 
 returns : tie.Need-returns
 returns c =
     let g = c .before .before .before in
-    let s = entry (exclusions-made g) in
+    let s = start g in
     let few = table-few _ principal (s .pre .0 principal) in
     let w = c .before .listed .ensures in
-    let needed = g .before .leading-to .ensures in
+    let needed = needs-made g .leading-to .ensures in
     record {
       few = few;
       count = refl;
       permitted = refl;
-      excludes = λ p q lp lq. exclusions-made g .excludes-of .ensures p q (omega arith);
+      excludes = λ p q lp lq. exclusions-made (needs-made g) .excludes-of .ensures p q (omega arith);
       needed = λ p q lp i. needed p lp .only q i .0;
       needs = λ p q lp lq. (λ i. needed p lp .only q i .1, λ e. needed p lp .all q lq e);
-      grants = λ p k lp. g .grants-of .ensures p k lp;
+      grants = granted-below (s .args .t1) (g .grants-of .result) (g .grants-of .ensures);
       every = refl;
       wanted = w .0;
       bounded = w .1;
@@ -73,5 +82,5 @@ masks-of-spec =
     mul-listed
     element-copy-out-listed
     listed-requires
-    element-copy-out-t21
+    element-copy-out-t25
     returns)

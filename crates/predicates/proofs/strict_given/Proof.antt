@@ -7,16 +7,26 @@ use native.Mathlib.Omega.{arith}
 use Rattle.policy.specs.LoadableLaws.{table-few, loadable-table}
 use Rattle.policy.specs.Table.{Kind, principal, method}
 use Rattle.predicates.proofs.Verdicts.{strict-yes}
-use Rattle.justification.proofs.Asking.{Asked, asked, strict-refused, strict-is}
+use Rattle.justification.specs.Predicates.{questionRefusal}
+use Rattle.justification.specs.GuardLaws.{grants-fit, granted-below}
+use Rattle.justification.proofs.Asking.{Asked, asked, refusal-is, few-users, strict-refused, strict-is}
 use borrow.Author.Needs.{needs}
 use Rattle.predicates.proofs.strict_given.Statement.{statement}
 use Rattle.predicates.proofs.strict_given.Tie as tie
 
 question-refusal-requires : tie.Need-question-refusal-requires
-question-refusal-requires c κs = c .pre
+question-refusal-requires c κs = few-users (c .before .before .args .t1) (c .before .before .args .question) (c .before .before .pre)
+
+-- the number is that of the record's refusal
+module _ (h : tie.After-question-refusal) where
+  abbrev entry : tie.Start
+  entry = h .before .before .before
+
+  number-is : h .question-refusal .result ≡ questionRefusal (entry .args .t1) (entry .args .question)
+  number-is = refusal-is (entry .args .t1) (entry .args .question) (entry .pre) (h .question-refusal .ensures)
 
 returns : tie.Need-returns
-returns c = strict-refused _ _ (c .before .«question-refusal» .ensures) (c .if1 .taken)
+returns c = strict-refused _ _ (number-is (c .before)) (c .if1 .taken)
 
 index-requires : tie.Need-index-requires
 index-requires c κs = search needs
@@ -24,10 +34,13 @@ index-requires c κs = search needs
 -- past the test of the number: the question may be put
 module _ (h : tie.After-index) where
   abbrev start : tie.Start
-  start = h .before .before .before
+  start = entry (h .before .before)
+
+  no-refusal : 0 ≡ questionRefusal (start .args .t1) (start .args .question)
+  no-refusal = sym (h .before .if1 .left) ∙ number-is (h .before .before)
 
   may : Asked (start .args .t1) (start .args .question)
-  may = asked _ _ (sym (h .before .before .«question-refusal» .ensures) ∙ h .before .if1 .left)
+  may = asked _ _ (sym no-refusal)
 
   tables : (j : Kind) → tableLoads (start .args .t1) j ≡ true
   tables = loadable-table _ (may .loads)
@@ -45,28 +58,34 @@ listed-requires : tie.Need-listed-requires
 listed-requires c κs = search needs
 
 grants-of-requires : tie.Need-grants-of-requires
-grants-of-requires c κs = tables (c .before .before)
+grants-of-requires c κs =
+    let h = c .before .before .before .before .before .before .before in grants-fit (start h .args .t1) (tables h)
+
+-- the method's index, from the privileges of the principals
+abbrev indexed : tie.After-grants-of → tie.After-index
+indexed c = c .before .before .before .before .before .before .before .before
 
 element-copy-out-meeting : tie.Need-element-copy-out-meeting
-element-copy-out-meeting c = in-range (c .before .before .before)
+element-copy-out-meeting c = in-range (indexed c)
 
 meeting-requires : tie.Need-meeting-requires
-meeting-requires c κs = table-few _ principal (tables (c .before .before .before .before) principal)
+meeting-requires c κs = table-few _ principal (tables (indexed (c .before)) principal)
 
 enabled-of-requires : tie.Need-enabled-of-requires
-enabled-of-requires c κs = tables (c .before .before .before .before .before)
+enabled-of-requires c κs = tables (indexed (c .before .before))
 
 returns-2 : tie.Need-returns-2
 returns-2 c =
     let m = c .before in
     let gr = m .before .before in
-    let l = gr .before in
-    let h = l .before .before in
+    let h = indexed gr in
+    let l = gr .before .before .before .before .before .before in
     let s = start h in
     let r = s .args .t1 in
-    strict-is r _ (sym (h .before .if1 .left) ∙ h .before .before .«question-refusal» .ensures) _
-    (strict-yes r (s .args .question) (m .meeting .result) (c .«enabled-of» .result) (gr .«grants-of» .result) (gr .«grants-of» .ensures)
-    (c .«enabled-of» .ensures)
+    strict-is r _ (no-refusal h) _
+    (strict-yes r (s .args .question) (m .meeting .result) (c .enabled-of .result) (gr .grants-of .result)
+    (granted-below r (gr .grants-of .result) (gr .grants-of .ensures))
+    (c .enabled-of .ensures)
     (h .index .ensures) (l .listed .ensures .0) (l .listed .ensures .1) (m .meeting .ensures))
 
 pub strict-given-spec : {M : Type 1} → statement M

@@ -1,14 +1,17 @@
 -- `answer_all` meets its contract.
-use Prim.Native.Nat.{_-_, _*_, _≤_}
-use mathlib.Core.Path.{_≡_, sym, _∙_, ap}
+use Prim.Native.Nat.{_+_, _-_, _*_, _≤_}
+use mathlib.Core.Path.{_≡_, ap}
 use native.Mathlib.Omega.{arith}
 use lib.ListN.{length}
 use borrow.Author.Needs.{needs}
+use Rattle.policy.specs.Table.{withMemo}
 use Rattle.policy.specs.Loadable.{loadable}
-use Rattle.access.specs.declared.Answer.{Answer}
-use Rattle.replay.specs.LoadLaws.{answer-loads}
+use Rattle.policy.specs.declared.Edited.{Edited}
+use Rattle.access.specs.Access.{leaves}
+use Rattle.replay.specs.Replay.{answerTo, editAnswer}
 use Rattle.replay.specs.AnswerLaws.{whole-fit}
-use Rattle.replay.proofs.Replaying.{Replaying, replaying-start, replaying-length, replaying-more}
+use Rattle.replay.proofs.AnswerCases.{answer-case}
+use Rattle.replay.proofs.Replaying.{Replaying, replaying-start, replaying-length, replaying-on}
 use Rattle.replay.proofs.Replaying.{replaying-end, replaying-left}
 use Rattle.replay.proofs.answer_all.Statement.{statement}
 use Rattle.replay.proofs.answer_all.Tie as tie
@@ -29,8 +32,19 @@ fits : (c : tie.In-loop Inv-loop μ-loop)
     × (5 * c .before .before .before .answerable .result ≤ length (entry c .args .answers .now))
 fits c = whole-fit _ _ _ (c .before .before .before .answerable .ensures)
 
+-- there is room for one more answer
+room : (c : tie.In-loop Inv-loop μ-loop) → 5 * c .before .loop .i + 5 ≤ length (c .before .loop .answers)
+room c = omega (arith, fits c .1, c .loop-test .taken, replaying-length (c .before .loop .inv .0) (fits c .1))
+
+-- a step of the loop, from where the call has been read
+abbrev read : tie.After-shared-slice-known5 Inv-loop μ-loop → tie.In-loop Inv-loop μ-loop
+read c = c .before .before .before .before
+
 answerable-requires : tie.Need-answerable-requires Inv-loop μ-loop
 answerable-requires c κs = search needs
+
+loadable-requires : tie.Need-loadable-requires Inv-loop μ-loop
+loadable-requires c κs = search needs
 
 loop-holds : tie.Need-loop-holds Inv-loop μ-loop
 loop-holds c = (replaying-start _ _ _ _, c .loadable .ensures .decides)
@@ -38,68 +52,101 @@ loop-holds c = (replaying-start _ _ _ _, c .loadable .ensures .decides)
 mul-at : tie.Need-mul-at Inv-loop μ-loop
 mul-at c = omega (arith, fits c .0, entry c .good .1 .0)
 
-shared-slice-read-answer-given : tie.Need-shared-slice-read-answer-given Inv-loop μ-loop
-shared-slice-read-answer-given c = omega (arith, fits (c .before) .0)
+mul-place : tie.Need-mul-place Inv-loop μ-loop
+mul-place c = omega (arith, fits c .1, entry c .good .1 .1 .0)
 
-add-answer-given : tie.Need-add-answer-given Inv-loop μ-loop
-add-answer-given c = omega (arith, fits (c .before) .0, entry (c .before) .good .1 .0)
+shared-slice-read-kind : tie.Need-shared-slice-read-kind Inv-loop μ-loop
+shared-slice-read-kind c = omega (arith, fits (c .before) .0)
 
-shared-slice-read-answer-given-2 : tie.Need-shared-slice-read-answer-given-2 Inv-loop μ-loop
-shared-slice-read-answer-given-2 c = omega (arith, fits (c .before .before) .0)
+add-a : tie.Need-add-a Inv-loop μ-loop
+add-a c = omega (arith, fits (c .before) .0, entry (c .before) .good .1 .0)
 
-add-answer-given-2 : tie.Need-add-answer-given-2 Inv-loop μ-loop
-add-answer-given-2 c = omega (arith, fits (c .before .before) .0, entry (c .before .before) .good .1 .0)
+shared-slice-read-a : tie.Need-shared-slice-read-a Inv-loop μ-loop
+shared-slice-read-a c = omega (arith, fits (c .before .before) .0)
 
-shared-slice-read-answer-given-3 : tie.Need-shared-slice-read-answer-given-3 Inv-loop μ-loop
-shared-slice-read-answer-given-3 c = omega (arith, fits (c .before .before .before) .0)
+add-b : tie.Need-add-b Inv-loop μ-loop
+add-b c = omega (arith, fits (c .before .before) .0, entry (c .before .before) .good .1 .0)
 
-add-answer-given-3 : tie.Need-add-answer-given-3 Inv-loop μ-loop
-add-answer-given-3 c = omega (arith, fits (c .before .before .before) .0, entry (c .before .before .before) .good .1 .0)
+shared-slice-read-b : tie.Need-shared-slice-read-b Inv-loop μ-loop
+shared-slice-read-b c = omega (arith, fits (c .before .before .before) .0)
 
-shared-slice-read-answer-given-4 : tie.Need-shared-slice-read-answer-given-4 Inv-loop μ-loop
-shared-slice-read-answer-given-4 c = omega (arith, fits (c .before .before .before .before) .0)
+add-c : tie.Need-add-c Inv-loop μ-loop
+add-c c = omega (arith, fits (c .before .before .before) .0, entry (c .before .before .before) .good .1 .0)
 
-loadable-requires : tie.Need-loadable-requires Inv-loop μ-loop
-loadable-requires c κs = search needs
-
-answer-given-requires : tie.Need-answer-given-requires Inv-loop μ-loop
-answer-given-requires c κs = c .before .before .before .before .before .loop .inv .1
-
-mul-put-answer : tie.Need-mul-put-answer Inv-loop μ-loop
-mul-put-answer c =
-    omega (
-      arith,
-      fits (c .before .before .before .before .before .before) .1,
-      entry (c .before .before .before .before .before .before) .good .1
-          .1 .0,
-    )
-
-put-answer-requires : tie.Need-put-answer-requires Inv-loop μ-loop
-put-answer-requires c κs =
-    let h = c .before .before .before .before .before .before in
-    omega (arith, fits h .1, replaying-length (h .before .loop .inv .0) (fits h .1))
+shared-slice-read-c : tie.Need-shared-slice-read-c Inv-loop μ-loop
+shared-slice-read-c c = omega (arith, fits (read c) .0)
 
 add-i : tie.Need-add-i Inv-loop μ-loop
-add-i c =
-    omega (
-      arith,
-      fits (c .before .before .before .before .before .before .before .before .before .before) .1,
-      entry
-          (c .before .before .before .before .before .before .before .before .before .before) .good .1 .1 .0,
-    )
+add-i c = omega (arith, fits (read c) .1, entry (read c) .good .1 .1 .0)
+
+-- ---- an edge is added
+
+add-edge-given-requires : tie.Need-add-edge-given-requires Inv-loop μ-loop
+add-edge-given-requires c κs = read (c .before) .before .loop .inv .1
+
+put-answer-requires : tie.Need-put-answer-requires Inv-loop μ-loop
+put-answer-requires c κs = omega (arith, room (read (c .before .before .before)))
 
 loop-less : tie.Need-loop-less Inv-loop μ-loop
-loop-less c = omega arith
+loop-less c = omega (arith, read (c .before .before .before .before .before .before .before) .loop-test .taken)
 
 loop-again : tie.Need-loop-again Inv-loop μ-loop
+unfolding answerTo
 loop-again c =
-    let h = c .before .before .before .before .before .before .before .before .before .before in
-    let got = c .before .before .before .before .before .answer-given in
-    let at-loop = h .before .loop .inv in (
-      replaying-more (at-loop .0) (fits h .1) (got .result) (h .loop-test .taken) (got .ensures)
-          (c .before .before .before .put-answer .ensures),
-      at-loop .1 ∙ sym (ap (λ (x : Answer). loadable (x .rules)) (got .ensures) ∙ answer-loads _ _),
-    )
+    let p = c .before .before .before in
+    let x = p .before .before in
+    let m = x .before in
+    let h = read (m .before) in
+    let l = h .before .loop in
+    replaying-on (l .inv .0) (fits h .1) (editAnswer (x .add-edge-given .result)) (h .loop-test .taken) (l .inv .1)
+    (answer-case _ _ 0 _ _ _ (m .match .keys1) (ap (λ (e : Edited). editAnswer e) (x .add-edge-given .ensures)))
+    (p .put-answer .ensures)
+
+-- ---- an edge is removed
+
+remove-edge-given-requires : tie.Need-remove-edge-given-requires Inv-loop μ-loop
+remove-edge-given-requires c κs = read (c .before) .before .loop .inv .1
+
+put-answer-requires-2 : tie.Need-put-answer-requires-2 Inv-loop μ-loop
+put-answer-requires-2 c κs = omega (arith, room (read (c .before .before .before)))
+
+loop-less-2 : tie.Need-loop-less-2 Inv-loop μ-loop
+loop-less-2 c = omega (arith, read (c .before .before .before .before .before .before .before) .loop-test .taken)
+
+loop-again-2 : tie.Need-loop-again-2 Inv-loop μ-loop
+unfolding answerTo
+loop-again-2 c =
+    let p = c .before .before .before in
+    let x = p .before .before in
+    let m = x .before in
+    let h = read (m .before) in
+    let l = h .before .loop in
+    replaying-on (l .inv .0) (fits h .1) (editAnswer (x .remove-edge-given .result)) (h .loop-test .taken) (l .inv .1)
+    (answer-case _ _ 1 _ _ _ (m .match .keys2) (ap (λ (e : Edited). editAnswer e) (x .remove-edge-given .ensures)))
+    (p .put-answer2 .ensures)
+
+-- ---- a call that is no edit
+
+decision-of-requires : tie.Need-decision-of-requires Inv-loop μ-loop
+decision-of-requires c κs = let n = c .match .rest in (read (c .before) .before .loop .inv .1, omega (arith, n .0 .1, n .1))
+
+put-answer-requires-3 : tie.Need-put-answer-requires-3 Inv-loop μ-loop
+put-answer-requires-3 c κs = omega (arith, room (read (c .before .before .before)))
+
+loop-less-3 : tie.Need-loop-less-3 Inv-loop μ-loop
+loop-less-3 c = omega (arith, read (c .before .before .before .before .before .before .before) .loop-test .taken)
+
+loop-again-3 : tie.Need-loop-again-3 Inv-loop μ-loop
+unfolding withMemo
+loop-again-3 c =
+    let p = c .before .before .before in
+    let x = p .before .before in
+    let m = x .before in
+    let h = read (m .before) in
+    let l = h .before .loop in
+    replaying-on (l .inv .0) (fits h .1) (leaves (l .r) (x .decision-of .result)) (h .loop-test .taken) (l .inv .1)
+    (x .decision-of .ensures)
+    (p .put-answer3 .ensures)
 
 same-length : tie.Need-same-length Inv-loop μ-loop
 same-length c =
@@ -109,9 +156,9 @@ returns : tie.Need-returns Inv-loop μ-loop
 returns c =
     let count = c .before .before .before .answerable .ensures in
     let at-loop = c .before .loop .inv .0 in
-    let room = whole-fit _ _ _ count .1 in (
-      λ i. record { count = count i; rules = replaying-left at-loop room (c .loop-test .left) count i },
-      replaying-end at-loop room (c .loop-test .left) count,
+    let fit = whole-fit _ _ _ count .1 in (
+      λ i. record { count = count i; rules = replaying-left at-loop fit (c .loop-test .left) count i },
+      replaying-end at-loop fit (c .loop-test .left) count,
     )
 
 pub answer-all-spec : {M : Type 1} → statement M
@@ -124,18 +171,26 @@ answer-all-spec =
     loadable-requires
     loop-holds
     mul-at
-    shared-slice-read-answer-given
-    add-answer-given
-    shared-slice-read-answer-given-2
-    add-answer-given-2
-    shared-slice-read-answer-given-3
-    add-answer-given-3
-    shared-slice-read-answer-given-4
-    answer-given-requires
-    mul-put-answer
-    put-answer-requires
+    mul-place
+    shared-slice-read-kind
+    add-a
+    shared-slice-read-a
+    add-b
+    shared-slice-read-b
+    add-c
+    shared-slice-read-c
     add-i
+    add-edge-given-requires
+    put-answer-requires
     loop-less
     loop-again
+    remove-edge-given-requires
+    put-answer-requires-2
+    loop-less-2
+    loop-again-2
+    decision-of-requires
+    put-answer-requires-3
+    loop-less-3
+    loop-again-3
     same-length
     returns)
