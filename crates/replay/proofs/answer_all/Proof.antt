@@ -112,6 +112,7 @@ returns c =
     let room = whole-fit _ _ _ count .1 in (
       λ i. record { count = count i; rules = replaying-left at-loop room (c .loop-test .left) count i },
       replaying-end at-loop room (c .loop-test .left) count,
+      c .before .before .loadable .ensures .typed,
     )
 
 pub answer-all-spec : {M : Type 1} → statement M
