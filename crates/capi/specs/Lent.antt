@@ -3,6 +3,7 @@ use Prim.Native.Nat.{ℕ}
 use mathlib.Core.Path.{_≡_}
 use mathlib.Core.List.{List}
 use Rattle.policy.specs.declared.Record.{Record}
+use Rattle.policy.specs.Typed.{Typed}
 use Rattle.reading.specs.Loading.{load}
 use Rattle.bundle.specs.Writing.{written}
 use Rattle.replay.specs.Replay.{answeredCount, leftAfter, bufferAfter}
@@ -20,8 +21,10 @@ loadLeft text = record { value = loadValue text; rules = load text .rules }
 abbrev pub writeValue : Record → List ℕ → ℕ
 writeValue r buffer = packed (written r buffer .number) (written r buffer .length)
 
--- answering, from the buffer `before`: the count, the record that the last call left, and the answers
+-- answering, from the buffer `before`: the count, the record that the last call left, and the answers; the record is one of its type, so
+-- that 19 says that no text loads to it
 pub record Answers (r : Record) (calls before : List ℕ) (n : ℕ) (left : Record) (after : List ℕ) : Type 0 where
   pub count : n ≡ answeredCount calls before
   pub rules : left ≡ leftAfter r calls (answeredCount calls before)
   pub buffer : after ≡ bufferAfter r calls before
+  pub typed : Typed r

@@ -1,6 +1,7 @@
 // The C interface over a record that the caller owns and lends: it keeps what the calls before left.
 
 ghost use mathlib.Core.Path.{_≡_};
+ghost use Rattle.policy.specs.Typed.{Typed};
 ghost use Rattle.reading.specs.Loading.{load};
 ghost use Rattle.bundle.specs.Writing.{bufferAfter};
 ghost use Rattle.capi.specs.Lent.{loadValue, loadLeft, writeValue, Answers};
@@ -28,7 +29,7 @@ fn load_left(bundle: &[u8]) -> Left
 
 // Writes the record as a bundle: the writer's number and length.
 fn write_value(rules: Record, out: &mut [u8]) -> u64
-    ensures { λ r. ⌜ (r ≡ writeValue rules (now (out .entry))) × (now (out .exit) ≡ bufferAfter rules (now (out .entry))) ⌝ }
+    ensures { λ r. ⌜ (r ≡ writeValue rules (now (out .entry))) × (now (out .exit) ≡ bufferAfter rules (now (out .entry))) × Typed rules ⌝ }
 {
     let written = bundle::write(rules, out);
     packed(written.number, written.length)
@@ -60,7 +61,7 @@ pub extern "C" fn access_answer(rules: &mut Record, calls: &[u8], answers: &mut 
 #[no_mangle]
 pub extern "C" fn access_write(rules: &Record, out: &mut [u8]) -> u64
     ensures { λ r. ⌜ (r ≡ writeValue (now (rules .entry)) (now (out .entry)))
-        × (now (out .exit) ≡ bufferAfter (now (rules .entry)) (now (out .entry))) ⌝ }
+        × (now (out .exit) ≡ bufferAfter (now (rules .entry)) (now (out .entry))) × Typed (now (rules .entry)) ⌝ }
 {
     write_value(*rules, out)
 }

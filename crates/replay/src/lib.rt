@@ -140,7 +140,7 @@ pub struct Replayed {
 // Answers the calls in turn. No call changes whether some bundle loads to the record: one test does for all.
 pub fn answer_all(rules: Record, calls: &[u8], answers: &mut [u8]) -> Replayed
     ensures { λ r. ⌜ (r ≡ replayed rules (now (calls .entry)) (now (answers .entry)))
-        × (now (answers .exit) ≡ bufferAfter rules (now (calls .entry)) (now (answers .entry))) ⌝ }
+        × (now (answers .exit) ≡ bufferAfter rules (now (calls .entry)) (now (answers .entry))) × Typed rules ⌝ }
 {
     let n = answerable(calls.len(), answers.len());
     let loads = policy::loadable::loadable(rules);
@@ -179,7 +179,7 @@ pub fn answer_all(rules: Record, calls: &[u8], answers: &mut [u8]) -> Replayed
 // Answers the calls in turn, and returns how many.
 pub fn replay(rules: Record, calls: &[u8], answers: &mut [u8]) -> usize
     ensures { λ r. ⌜ (r ≡ answeredCount (now (calls .entry)) (now (answers .entry)))
-        × (now (answers .exit) ≡ bufferAfter rules (now (calls .entry)) (now (answers .entry))) ⌝ }
+        × (now (answers .exit) ≡ bufferAfter rules (now (calls .entry)) (now (answers .entry))) × Typed rules ⌝ }
 {
     let all = answer_all(rules, calls, answers);
     all.count

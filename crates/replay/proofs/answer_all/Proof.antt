@@ -159,6 +159,7 @@ returns c =
     let fit = whole-fit _ _ _ count .1 in (
       λ i. record { count = count i; rules = replaying-left at-loop fit (c .loop-test .left) count i },
       replaying-end at-loop fit (c .loop-test .left) count,
+      c .before .before .loadable .ensures .typed,
     )
 
 pub answer-all-spec : {M : Type 1} → statement M

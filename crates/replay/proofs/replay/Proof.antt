@@ -12,7 +12,7 @@ same-length : tie.Need-same-length
 same-length c = search needs
 
 returns : tie.Need-returns
-returns c = let e = c .before .before .answer-all .ensures in (ap (λ (x : Replayed). x .count) (e .0), e .1)
+returns c = let e = c .before .before .answer-all .ensures in (ap (λ (x : Replayed). x .count) (e .0), e .1, e .2)
 
 pub replay-spec : {M : Type 1} → statement M
 replay-spec = tie.close (tie.spec answer-all-requires same-length returns)

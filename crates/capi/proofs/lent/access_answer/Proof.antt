@@ -42,6 +42,7 @@ use denote.Triple.Walked.{says, Stays, stay-ref, stay-dropped, gave-slice, walkO
 use denote.Triple.Walked.{ends-at, walked}
 use denote.Exit.{yes}
 use Rattle.policy.specs.declared.Record.{Record}
+use Rattle.policy.specs.Typed.{Typed}
 use Rattle.policy.proofs.Record as T
 use Rattle.policy.proofs.Record.Laws as T′
 use Rattle.replay.specs.Replay.{bufferAfter, replayed}
@@ -114,7 +115,7 @@ module _ {M : Type 1} (𝓤 : URA M) (H : Heap 𝓤) (A : Atoms 𝓤) (W : Given
 
   -- what the callee says of its result and of the buffer's last list
   abbrev Says : Replayed → List ℕ → Type 0
-  Says r zs = (r ≡ replayed h (y .now) (z .now)) × (zs ≡ bufferAfter h (y .now) (z .now))
+  Says r zs = (r ≡ replayed h (y .now) (z .now)) × (zs ≡ bufferAfter h (y .now) (z .now)) × Typed h
 
   exits : (r : Replayed) (zs : List ℕ) → Says r zs → length zs ≡ length (z .now) → r .count < 2 ^ 64
       → ent 𝓤 (⋆ 𝓤 H A (holds γ (r .rules) ∷ lent κ b o γ ∷ ‵ (flft κ q) ∷ tokens ∷ ‵ (finally u8 (z .name) zs) ∷ []))
@@ -123,7 +124,7 @@ module _ {M : Type 1} (𝓤 : URA M) (H : Heap 𝓤) (A : Atoms 𝓤) (W : Given
       qed W (holds γ (r .rules) ∷ lent κ b o γ ∷ ‵ (flft κ q) ∷ tokens ∷ ‵ (finally u8 (z .name) zs) ∷ []) ∵
       suffices ! _ (ends-at 𝓤 H A f.ended stayed (f.clauses 𝓤 H A at-mem run) W bound (vint w64 (r .count)) (r .count)
       (r .rules, (tt, (zs, tt))) (tt, (tt, (l, tt)))) $
-      says ! (record { count = ap (λ (w : Replayed). w .count) (e .0); rules = ap (λ (w : Replayed). w .rules) (e .0); buffer = e .1 }) $
+      says ! (record { count = ap (λ (w : Replayed). w .count) (e .0); rules = ap (λ (w : Replayed). w .rules) (e .0); buffer = e .1; typed = e .2 }) $
       move ! (2 ∷ 3 ∷ []) $ join ! $ frame ! $ feqI ! (List Val) (vptr b o ∷ []) (vptr b o ∷ []) refl $ fjoin3 ! $
       nothing ! $ move ! (2 ∷ 0 ∷ []) $ fjoin ! $ nothing ! $ fjoin ! $ move ! (1 ∷ 0 ∷ []) $ fjoin ! $ frame ! $
       owned ! u64 (Is u64) (uint-makes 𝓤 H A W w64) (r .count) _ (refl, fits) $ done !

@@ -41,6 +41,7 @@ use denote.Triple.Spec.{tripleOf}
 use denote.Triple.Walked.{says, Stays, stay-dropped, gave-slice, walkOf, AllGo, goes-dropped, goes-gave-slice, ends-at, walked}
 use denote.Exit.{yes}
 use Rattle.policy.specs.declared.Record.{Record}
+use Rattle.policy.specs.Typed.{Typed}
 use Rattle.policy.proofs.Record as T
 use Rattle.policy.proofs.Record.Laws as T′
 use Rattle.bundle.specs.Writing.{bufferAfter}
@@ -101,7 +102,7 @@ module _ {M : Type 1} (𝓤 : URA M) (H : Heap 𝓤) (A : Atoms 𝓤) (W : Given
 
   -- what the callee says of its result and of the buffer's last list
   abbrev Says : ℕ → List ℕ → Type 0
-  Says r zs = (r ≡ writeValue h (z .now)) × (zs ≡ bufferAfter h (z .now))
+  Says r zs = (r ≡ writeValue h (z .now)) × (zs ≡ bufferAfter h (z .now)) × Typed h
 
   exits : (r : ℕ) (v : Val) (zs : List ℕ) → Says r zs → length zs ≡ length (z .now)
       → ent 𝓤 (⋆ 𝓤 H A (‵ (u64 .own r (v ∷ [])) ∷ token ∷ ‵ (finally u8 (z .name) zs) ∷ ‵ (flft κ q) ∷ [])) (Post v)

@@ -18,7 +18,7 @@ same-length c = search needs
 returns : tie.Need-returns
 returns c =
     let e = c .before .before .before .write .ensures in
-    (c .packed .ensures ∙ ap (λ (w : Written). packed (w .number) (w .length)) (e .answers), e .buffer)
+    (c .packed .ensures ∙ ap (λ (w : Written). packed (w .number) (w .length)) (e .answers), e .buffer, e .typed)
 
 pub write-value-spec : {M : Type 1} → statement M
 write-value-spec = tie.close (tie.spec write-requires packed-requires same-length returns)
