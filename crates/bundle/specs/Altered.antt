@@ -86,7 +86,8 @@ read-answer (more (octets-line {os} f) p) t =
     go : (x : Bool) → eqb (lineRefusal t (kindOf (kindOctet os)) os) 0 ≡ x → (l : Loaded) → LoadAnswer l
         → LoadAnswer (cond x l (notLoaded (lineRefusal t (kindOf (kindOctet os)) os) (t .lines + 1)))
     go true e l h = h
-    go false e l h = refusal-answer (lineRefusal t (kindOf (kindOctet os)) os) _ (eqb-false _ _ e) (line-number t (kindOf (kindOctet os)) os)
+    go false e l h =
+        refusal-answer (lineRefusal t (kindOf (kindOctet os)) os) _ (eqb-false _ _ e) (line-number t (kindOf (kindOctet os)) os)
 
 -- of every text
 pub load-answer : (t : List ℕ) → LoadAnswer (load t)

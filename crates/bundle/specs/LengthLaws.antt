@@ -5,7 +5,8 @@ use mathlib.Core.Bool.{true}
 use mathlib.Core.List.{List, [], _∷_}
 use native.Mathlib.Omega.{arith}
 use lib.ListN.{length, length-append}
-use Rattle.common.specs.Limits.{mostUsers, mostEdges, mostFormulas, mostDemarcations, mostPairs, mostPrincipals, mostExclusions, mostMethods}
+use Rattle.common.specs.Limits.{mostUsers, mostEdges, mostFormulas, mostDemarcations, mostPairs, mostPrincipals}
+use Rattle.common.specs.Limits.{mostExclusions, mostMethods}
 use Rattle.common.specs.ListLaws.{length-table}
 use Rattle.octets.specs.Line.{total, lineBytes, textOf, totals}
 use Rattle.octets.specs.WritingLaws.{length-line}

@@ -5,6 +5,7 @@ use mathlib.Core.List.{List, [], _∷_}
 use mathlib.Core.Option.{Option, none, some}
 use lib.ListN.{length}
 use lib.Dec.{leb, eqb}
+use Rattle.common.specs.Limits.{mostEdges}
 use Rattle.common.specs.Lists.{at, any, those, same}
 use Rattle.common.specs.Causes.{cause, first}
 use Rattle.common.specs.Refusals.{edgeOutOfRange, edgePresent, edgeAbsent, edgesFull, noMethod, noObject, notUser, noSet}
@@ -55,7 +56,7 @@ holdsEdge book e = any (same e) book
 abbrev pub addRefusal : Record → Book → ℕ → ℕ → ℕ → ℕ
 addRefusal b book l x y =
     first (cause edgeOutOfRange (not (edgeInRange (b .objects) l x y)) ∷ cause edgePresent (holdsEdge book (l ∷ x ∷ y ∷ []))
-    ∷ cause edgesFull (leb 512 (length book)) ∷ [])
+    ∷ cause edgesFull (leb mostEdges (length book)) ∷ [])
 
 -- remove: 10; 12 the edge isn't in the book
 abbrev pub removeRefusal : Record → Book → ℕ → ℕ → ℕ → ℕ

@@ -7,6 +7,7 @@ use native.Mathlib.Omega.{arith}
 use lib.ListN.{length}
 use lib.Dec.{ltb, leb, eqb}
 use borrow.Author.Tests.{eqb-true}
+use Rattle.common.specs.Limits.{mostEdges}
 use Rattle.common.specs.Lists.{same}
 use Rattle.common.specs.ListLaws.{length-table}
 use Rattle.common.specs.BoolLaws.{and-cases, and-false}
@@ -153,7 +154,7 @@ module _ (b : Record) (book : Book) (r : Record) (h : Agrees b book r) where
       let memo : s .memo ≡ emptied 0 0 = ap (λ (q : Record). q .memo) is ∙ memo-changed r es (emptied 0 0) in
       let few = table-few s edge (loadable-table s loads edge) in
       let counted : s .«edge_count» ≡ length es = ap (λ (q : Record). q .«edge_count») is ∙ count-changed r es (emptied 0 0) in
-      let small : length es ≤ 512 = omega arith in
+      let small : length es ≤ mostEdges = omega arith in
       record {
         loads = loads;
         edges = λ d. ap (λ (fs : List (List ℕ)). edgeIn fs d) holds ∙ edges d;
@@ -174,7 +175,7 @@ module _ (b : Record) (book : Book) (r : Record) (h : Agrees b book r) where
     add-refusal : edits.addRefusal r l x y ≡ addRefusal b book l x y
     add-refusal =
         λ j. first (cause notLoadable (not (h .loads j)) ∷ cause edgeOutOfRange (not (edgeInRange (objects j) l x y))
-        ∷ cause edgePresent (h .edges it j) ∷ cause edgesFull (leb 512 (h .count j)) ∷ [])
+        ∷ cause edgePresent (h .edges it j) ∷ cause edgesFull (leb mostEdges (h .count j)) ∷ [])
 
     pub add-number : added r l x y .number ≡ addRefusal b book l x y
     unfolding added

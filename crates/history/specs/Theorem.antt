@@ -9,6 +9,7 @@ use native.Mathlib.Omega.{arith}
 use lib.Dec.{leb, eqb}
 use lib.ListN.{length}
 use borrow.Author.Tests.{eqb-true, eqb-false, eq-eqb, ne-eqb, lt-leb, leb-false}
+use Rattle.common.specs.Limits.{mostEdges}
 use Rattle.common.specs.Lists.{every, same}
 use Rattle.common.specs.BoolLaws.{and-cases, and-both, or-left}
 use Rattle.common.specs.Causes.{cause, first}
@@ -90,8 +91,8 @@ module _ (b : Record) (book : Book) (r : Record) (h : Agrees b book r) where
         (λ z. (
           it,
           λ e.
-              let no : holdsEdge book it ≡ false = absent (not (edgeInRange (b .objects) l x y)) (holdsEdge book it) (leb 512 (length book))
-              z in
+              let no : holdsEdge book it ≡ false = absent (not (edgeInRange (b .objects) l x y)) (holdsEdge book it)
+              (leb mostEdges (length book)) z in
               let now : holdsEdge (cond (eqb (addRefusal b book l x y) 0) (it ∷ book) book) it ≡ true = rw
               (eq-eqb (addRefusal b book l x y) 0 z) (or-left (same it it) (holdsEdge book it) (same-self it)) in
               false≢true (sym no ∙ e ∙ now),

@@ -8,6 +8,7 @@ use mathlib.Core.Option.{Option, none, some}
 use native.Mathlib.Omega.{arith}
 use lib.Dec.{eqb}
 use borrow.Author.Tests.{eqb-true, eq-eqb}
+use Rattle.common.specs.Limits.{privilegeCount}
 use Rattle.common.specs.Lists.{at, any, every, those, below, same}
 use Rattle.common.specs.QuantifierLaws.{any-table, table-any, every-table, table-every, some-of, all-of}
 use Rattle.common.specs.BoolLaws.{and-cases, and-both, or-cases, or-left}
@@ -133,14 +134,14 @@ module _ (r : Record) (m a : ℕ) (s : Masks) (k : Masked r m a s) (c : ℕ) (in
   met-form : (one : Bool)
       → (Met (not one) s c ↔ (cond one (any (have r (members r c)) (listed r m)) (every (have r (members r c)) (listed r m)) ≡ true))
   met-form true =
-      let e = some-of (have r (members r c)) (λ j. member j (at (r .«method_privileges») m)) 64 in (
-        λ (j, w, g). e .1 (j, in-lt 64 w (k .bounded), in-wanted j .0 w, given-have j .0 g),
+      let e = some-of (have r (members r c)) (λ j. member j (at (r .«method_privileges») m)) privilegeCount in (
+        λ (j, w, g). e .1 (j, in-lt privilegeCount w (k .bounded), in-wanted j .0 w, given-have j .0 g),
         λ t. let (j, l, w, h) = e .0 t in (j, in-wanted j .1 w, given-have j .1 h),
       )
   met-form false =
-      let e = all-of (have r (members r c)) (λ j. member j (at (r .«method_privileges») m)) 64 in (
+      let e = all-of (have r (members r c)) (λ j. member j (at (r .«method_privileges») m)) privilegeCount in (
         λ f. e .1 (λ j l w. given-have j .0 (f j (in-wanted j .1 w))),
-        λ t j w. given-have j .1 (e .0 t j (in-lt 64 w (k .bounded)) (in-wanted j .0 w)),
+        λ t j w. given-have j .1 (e .0 t j (in-lt privilegeCount w (k .bounded)) (in-wanted j .0 w)),
       )
 
   met-meets : Met (s .every) s c ↔ (meets r m (members r c) ≡ true)

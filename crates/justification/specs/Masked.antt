@@ -6,6 +6,7 @@ use mathlib.Core.Bool.{true, not, _||_}
 use mathlib.Core.List.{List, [], _∷_}
 use mathlib.Core.Option.{Option, none, some}
 use lib.Dec.{eqb}
+use Rattle.common.specs.Limits.{privilegeCount}
 use Rattle.common.specs.Lists.{at, any, same}
 use Rattle.common.specs.Sets.{In}
 use Rattle.closure.specs.Closure.{pairsOf}
@@ -33,7 +34,7 @@ pub record Masked (r : Record) (m allowed : ℕ) (s : Masks) : Type 0 where
       → (In k (at (s .grants) p) ↔ (demarcationHas r (at (r .«principal_demarcations») p) k ≡ true))
   pub every : s .every ≡ not (eqb (at (r .«method_forms») m) 0)
   pub wanted : s .wanted ≡ at (r .«method_privileges») m
-  pub bounded : s .wanted < 2 ^ 64
+  pub bounded : s .wanted < 2 ^ privilegeCount
 
 -- the number and set of the least set, or of none
 unfoldable pub leastValues : Option ℕ → FoundValues

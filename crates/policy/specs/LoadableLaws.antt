@@ -43,7 +43,8 @@ module _ (r : Record) where
   unfolding edgesLoad rowRefusal rowCauses inRange
   edge-columns = by-columns r edge _ refl (λ i. refl)
 
-  pub formula-columns : formulasLoad (r .«formula_count») (r .«formula_ops») (r .«formula_lefts») (r .«formula_rights») ≡ tableLoads r formula
+  pub formula-columns : formulasLoad (r .«formula_count») (r .«formula_ops») (r .«formula_lefts») (r .«formula_rights»)
+      ≡ tableLoads r formula
   unfolding formulasLoad rowRefusal rowCauses inRange
   formula-columns = by-columns r formula _ refl (λ i. refl)
 
@@ -60,11 +61,13 @@ module _ (r : Record) where
   unfolding principalsLoad rowRefusal rowCauses inRange
   principal-columns = by-columns r principal _ refl (λ i. refl)
 
-  pub exclusion-columns : exclusionsLoad (r .«principal_count») (r .«exclusion_count») (r .«exclusion_lows») (r .«exclusion_highs») ≡ tableLoads r exclusion
+  pub exclusion-columns : exclusionsLoad (r .«principal_count») (r .«exclusion_count») (r .«exclusion_lows») (r .«exclusion_highs»)
+      ≡ tableLoads r exclusion
   unfolding exclusionsLoad rowRefusal rowCauses inRange
   exclusion-columns = by-columns r exclusion _ refl (λ i. refl)
 
-  pub prerequisite-pairs : pairsLoad (r .«principal_count») (r .«prerequisite_count») (r .prerequisites) (r .dependents) ≡ tableLoads r prerequisite
+  pub prerequisite-pairs : pairsLoad (r .«principal_count») (r .«prerequisite_count») (r .prerequisites) (r .dependents)
+      ≡ tableLoads r prerequisite
   unfolding pairsLoad rowRefusal rowCauses inRange
   prerequisite-pairs = by-columns r prerequisite _ refl (λ i. refl)
 
@@ -84,7 +87,8 @@ graphLoads r = tableLoads r user && (tableLoads r edge && tableLoads r formula)
 abbrev pub groundsLoad : Record → Bool
 groundsLoad r =
     (tableLoads r demarcation && (tableLoads r principal && (tableLoads r exclusion && tableLoads r method)))
-    && ((tableLoads r hierarchy && not (circular (rows hierarchy r))) && (tableLoads r prerequisite && not (circular (rows prerequisite r))))
+    && ((tableLoads r hierarchy && not (circular (rows hierarchy r)))
+    && (tableLoads r prerequisite && not (circular (rows prerequisite r))))
 
 module _ (r : Record) where
   -- the head's table: at least one object

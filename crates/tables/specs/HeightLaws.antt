@@ -55,7 +55,8 @@ module _ {ops lefts rights heights : List ℕ} {i : ℕ} (h : Heights ops lefts 
   heights-low l g = omega (arith, h .each g, height-le ops lefts rights i g)
 
   -- the height of the formula at i, from the heights below it
-  pub height-here : {x : ℕ} (op a b : ℕ) → x ≡ heightOf (opOf op) a b (at heights) → x ≡ heightOf (opOf op) a b (heightIn ops lefts rights i)
+  pub height-here : {x : ℕ} (op a b : ℕ) → x ≡ heightOf (opOf op) a b (at heights)
+      → x ≡ heightOf (opOf op) a b (heightIn ops lefts rights i)
   height-here op a b e = e ∙ (λ j. heightOf (opOf op) a b (λ g. h .each g j))
 
   pub heights-more : {x : ℕ} → i < mostFormulas → x ≡ heightOf (opOf (at ops i)) (at lefts i) (at rights i) (heightIn ops lefts rights i)

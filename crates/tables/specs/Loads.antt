@@ -93,7 +93,8 @@ abbrev pub exclusionFits : ℕ → List ℕ → List ℕ → ℕ → Bool
 exclusionFits principals p q i = ltb (at p i) (at q i) && ltb (at q i) principals
 
 unfoldable pub exclusionsLoad : ℕ → ℕ → List ℕ → List ℕ → Bool
-exclusionsLoad principals n p q = linesLoad mostExclusions n (risingRefusal noLimit (exclusionFits principals p q) (pairKeys p q)) (p ∷ q ∷ [])
+exclusionsLoad principals n p q =
+    linesLoad mostExclusions n (risingRefusal noLimit (exclusionFits principals p q) (pairKeys p q)) (p ∷ q ∷ [])
 
 -- kind 0A
 unfoldable pub methodsLoad : ℕ → List ℕ → List ℕ → Bool
