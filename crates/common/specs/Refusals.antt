@@ -1,4 +1,4 @@
--- Document 01's table of grounds for refusing: the number of each cause.
+-- The documents' table of grounds for refusing: the number of each cause.
 use Prim.Native.Nat.{ℕ}
 
 -- ---- loading: returns number and line, leaves the blank record
@@ -82,3 +82,17 @@ shortBuffer = 18
 
 abbrev pub notLoadable : ℕ
 notLoadable = 19
+
+-- ---- tickets (document 02, 2026-01): return the number alone, leave the record
+
+-- a member is no principal, or isn't enabled
+abbrev pub notEnabled : ℕ
+notEnabled = 20
+
+-- the set isn't consistent
+abbrev pub notConsistent : ℕ
+notConsistent = 21
+
+-- the guard isn't met
+abbrev pub guardNotMet : ℕ
+guardNotMet = 22

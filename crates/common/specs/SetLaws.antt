@@ -3,7 +3,7 @@ use mathlib.Core.Path.{_≡_, refl, sym, ap, subst, _∙_}
 use mathlib.Core.Logic.{_⊎_, inl, inr, ⊎-elim}
 use mathlib.Core.Bool.{true}
 use Prim.Native.Nat.{ℕ, _+_, _-_, _*_, _/_, _%_, _^_, _≤_, _<_, min, max}
-use native.Mathlib.Nat.{mod-lt, div-eq-of-lt, div-self, eq-or-lt-of-le, lt-of-lt-of-le}
+use native.Mathlib.Nat.{mod-lt, div-eq-of-lt, div-self, eq-or-lt-of-le, lt-of-lt-of-le, le-div-iff-mul-le}
 use native.Mathlib.Decide.{decLe}
 use native.Mathlib.Omega.{arith}
 use borrow.Author.Tests.{eqb-true, eq-eqb}
@@ -117,6 +117,19 @@ in-lt {p} {s} n i h = ⊎-elim
     (λ l. absurd (let z : s / 2 ^ p ≡ 0 = div-eq-of-lt (lt-of-lt-of-le h (pow-mono l)) in let o = i .bit in omega arith))
     (λ l. l)
     (le-or-lt n p)
+
+-- a number from 2^n on has a member from n on
+pub high-in : (n : ℕ) {c : ℕ} → 2 ^ n ≤ c → (p : ℕ) × In p c × (n ≤ p)
+high-in n {c} l =
+    let (p, i) = some-in (c / 2 ^ n) (λ z. let k : 1 ≤ c / 2 ^ n = le-div-iff-mul-le (pow-pos n) .1 (omega arith) in omega arith) in
+    (n + p, record { bit = ap (λ (x : ℕ). x % 2) (sym (shr-shr c n p)) ∙ i .bit }, omega arith)
+
+-- a number whose members are all below n is below 2^n
+pub all-lt : (n c : ℕ) → ((p : ℕ) → In p c → p < n) → c < 2 ^ n
+all-lt n c h = ⊎-elim
+    (λ l. absurd (let (p, i, k) = high-in n {c = c} l in let b = h p i in omega arith))
+    (λ l. l)
+    (le-or-lt (2 ^ n) c)
 
 pub in-pow : (p : ℕ) → In p (2 ^ p)
 in-pow p = record { bit = ap (λ (x : ℕ). x % 2) (div-self (pow-pos p)) }

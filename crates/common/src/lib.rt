@@ -1,4 +1,4 @@
-// What every crate shares: the numbers of document 01's refusal table, and in specs/ the words of the specifications and laws about them.
+// What every crate shares: the numbers of the documents' refusal table, and in specs/ the words of the specifications and laws about them.
 
 // Success.
 pub const ACCEPTED: u8 = 0;
@@ -45,6 +45,13 @@ pub const SHORT_BUFFER: u8 = 18;
 
 // Any call but loading: no bundle loads to the record.
 pub const NOT_LOADABLE: u8 = 19;
+
+// Tickets: the number alone; the record stays.
+pub const NOT_ENABLED: u8 = 20;
+
+pub const NOT_CONSISTENT: u8 = 21;
+
+pub const GUARD_NOT_MET: u8 = 22;
 
 // ---- the limits of document 01, and the rooms that follow from them (`specs/Limits.antt`)
 

@@ -1,4 +1,4 @@
--- A question on a record that agrees the book answers as the book does, and leaves a record that agrees the book.
+-- A question or a ticket on a record that agrees the book is answered as the book answers it, and leaves a record that agrees the book.
 use Prim.Native.Nat.{ℕ}
 use mathlib.Core.Path.{_≡_, refl, sym, _∙_, ap, subst}
 use mathlib.Core.Bool.{Bool, true, false, not, cond}
@@ -23,7 +23,9 @@ use Rattle.access.specs.declared.Answer.{Answer}
 use Rattle.access.specs.Access.{refused, eager, lazy}
 use Rattle.access.specs.CorrectMemo.{numberOf, setOf, LeastAnswer}
 use Rattle.access.specs.CorrectMemoLaws.{eager-true, lazy-true}
-use Rattle.history.specs.Book.{Book, plain, askRefusal, verdict, enabledIn, ask, numberAndSet}
+use Rattle.tickets.specs.declared.Ticket.{Ticket}
+use Rattle.tickets.specs.Tickets.{constraintRefusal, setRefusal, afterQuestion, ticketRefusal}
+use Rattle.history.specs.Book.{Book, plain, askRefusal, verdict, enabledIn, ask, checkRefusal, numberAndSet}
 use Rattle.history.specs.Agrees.{Agrees}
 
 -- ---- what stays as the bundle has it
@@ -36,6 +38,10 @@ module _ (r b : Record) (rest : changed r [] (emptied 0 0) ≡ changed b [] (emp
   pub same-least : (m : ℕ) (passes : ℕ → Bool) → least r m passes ≡ least b m passes
   unfolding changed least candidates consistent meets have demarcationHas
   same-least m passes = ap (λ (x : Record). least x m passes) rest
+
+  pub same-set : (enabled : ℕ → Bool) (m c : ℕ) → setRefusal r enabled m c ≡ setRefusal b enabled m c
+  unfolding changed setRefusal constraintRefusal consistent meets have demarcationHas
+  same-set enabled m c = ap (λ (x : Record). setRefusal x enabled m c) rest
 
   same-holds : (book : List (List ℕ)) (o s p : ℕ)
       → holdsOn r book (formulaOf r p) o o s ≡ holdsOn b book (formulaOf b p) o o s
@@ -61,6 +67,14 @@ module _ (b : Record) (book : Book) (r : Record) (h : Agrees b book r) where
   pub least-is : (q : Question) → least r (q .method) (isEnabled r q) ≡ least b (q .method) (enabledIn b book q)
   least-is q =
       (λ i. least r (q .method) (λ p. enabled-is q p i)) ∙ same-least r b (h .rest) (q .method) (enabledIn b book q)
+
+  -- a ticket gets the book's number
+  pub check-number : (t : Ticket) → ticketRefusal r t ≡ checkRefusal b book t
+  unfolding ticketRefusal
+  check-number t =
+      let q = t .question in
+      (λ i. afterQuestion (refusal-is q i) (setRefusal r (λ p. enabled-is q p i) (q .method) (t .set)))
+      ∙ ap (afterQuestion (askRefusal b q)) (same-set r b (h .rest) (enabledIn b book q) (q .method) (t .set))
 
   -- ---- the answer
 

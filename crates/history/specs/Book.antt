@@ -20,13 +20,16 @@ use Rattle.justification.specs.Justification.{least}
 use Rattle.memo.specs.Walk.{formulaOf}
 use Rattle.access.specs.declared.Answer.{Answer}
 use Rattle.access.specs.Access.{eager, lazy}
+use Rattle.tickets.specs.declared.Ticket.{Ticket}
+use Rattle.tickets.specs.Tickets.{setRefusal, afterQuestion, ticketRefusal}
 
 -- a call's kind and its arguments other than the record
 pub data Call : Type 0 where
   add remove : ℕ → ℕ → ℕ → Call
   askEagerly askLazily : Question → Call
+  checkTicket : Ticket → Call
 
--- what a call answers: its number, and the set (empty for an edit)
+-- what a call answers: its number, and the set (empty for an edit and a ticket)
 pub record BookAnswer : Type 0 where
   pub number : ℕ
   pub set : ℕ
@@ -84,18 +87,26 @@ enabledIn b book q p = holdsOn b book (formulaOf b p) (q .object) (q .object) (q
 abbrev pub ask : Record → Book → Question → BookAnswer
 ask b book q = cond (eqb (askRefusal b q) 0) (verdict (least b (q .method) (enabledIn b book q))) (plain (askRefusal b q))
 
--- the edge goes in, or out, unless the edit is refused; a question leaves the book
+-- a ticket: 20, 21 or 22 by the principals enabled in the book's graph, after 14 to 16
+abbrev pub checkRefusal : Record → Book → Ticket → ℕ
+checkRefusal b book t =
+    let q = t .question in
+    afterQuestion (askRefusal b q) (setRefusal b (enabledIn b book q) (q .method) (t .set))
+
+-- the edge goes in, or out, unless the edit is refused; a question and a ticket leave the book
 unfoldable pub bookAfterCall : Record → Book → Call → Book
 bookAfterCall b book (add l x y) = cond (eqb (addRefusal b book l x y) 0) ((l ∷ x ∷ y ∷ []) ∷ book) book
 bookAfterCall b book (remove l x y) = cond (eqb (removeRefusal b book l x y) 0) (those (λ e. not (same (l ∷ x ∷ y ∷ []) e)) book) book
 bookAfterCall b book (askEagerly q) = book
 bookAfterCall b book (askLazily q) = book
+bookAfterCall b book (checkTicket t) = book
 
 unfoldable pub bookAnswer : Record → Book → Call → BookAnswer
 bookAnswer b book (add l x y) = plain (addRefusal b book l x y)
 bookAnswer b book (remove l x y) = plain (removeRefusal b book l x y)
 bookAnswer b book (askEagerly q) = ask b book q
 bookAnswer b book (askLazily q) = ask b book q
+bookAnswer b book (checkTicket t) = plain (checkRefusal b book t)
 
 -- the book after a list of calls
 unfoldable pub bookAfter : Record → Book → List Call → Book
@@ -115,12 +126,14 @@ engineLeaves r (add l x y) = added r l x y .rules
 engineLeaves r (remove l x y) = removed r l x y .rules
 engineLeaves r (askEagerly q) = eager r q .rules
 engineLeaves r (askLazily q) = lazy r q .rules
+engineLeaves r (checkTicket t) = r
 
 unfoldable pub engineAnswer : Record → Call → BookAnswer
 engineAnswer r (add l x y) = editNumber (added r l x y)
 engineAnswer r (remove l x y) = editNumber (removed r l x y)
 engineAnswer r (askEagerly q) = numberAndSet (eager r q)
 engineAnswer r (askLazily q) = numberAndSet (lazy r q)
+engineAnswer r (checkTicket t) = plain (ticketRefusal r t)
 
 unfoldable pub engineAfter : Record → List Call → Record
 engineAfter r [] = r

@@ -1,8 +1,9 @@
--- The crown table of document 01, (a) to (k), each from a fresh load of the crown's bytes, computed.
+-- The crown table of document 01, (a) to (k), and the course example of tickets, each from a fresh load of the crown's bytes, computed.
 use Prim.Native.Nat.{ℕ}
 use mathlib.Core.Path.{_≡_, refl}
 use mathlib.Core.Bool.{true, false}
 use mathlib.Core.List.{List, [], _∷_}
+use Rattle.common.specs.Refusals.{notEnabled, notConsistent, guardNotMet}
 use Rattle.policy.specs.declared.Record.{Record}
 use Rattle.policy.specs.Table.{changed, withMemo}
 use Rattle.policy.specs.Loadable.{tableLoads, loadable}
@@ -16,6 +17,7 @@ use Rattle.memo.specs.Walk.{evaluatedAll, eagerly, tried, weighed, walk}
 use Rattle.access.specs.declared.Answer.{Answer}
 use Rattle.memo.specs.Memo.{memoFor, newly}
 use Rattle.access.specs.Access.{answered, eager, lazy}
+use Rattle.tickets.specs.Tickets.{ticketOf, constraintRefusal, setRefusal, ticketRefusal}
 use Rattle.reading.specs.Loading.{load}
 use Rattle.loading.specs.Examples.{computing}
 use Rattle.loading.specs.Crown.{crown}
@@ -64,3 +66,20 @@ pub crown-table : CrownTable
 unfolding computing-table
 crown-table =
     record { loads = refl; a = refl; b = refl; c = refl; d = refl; e = refl; f = refl; g = refl; h = refl; i = refl; j = refl; k = refl }
+
+-- tickets for method 0 about the crown, by Ana (1) and Ben (2); the set {1, 2} is 6, {1} is 2, {0, 1} is 3, {2} is 4
+abbrev pub ticketBy : ℕ → ℕ → ℕ
+ticketBy requestor set = ticketRefusal fresh (ticketOf (by 0 requestor) set)
+
+pub record CrownTickets : Type 0 where
+  pub anaBoth : ticketBy 1 6 ≡ 0
+  pub anaOne : ticketBy 1 2 ≡ notConsistent
+  pub anaExcluded : ticketBy 1 3 ≡ notConsistent
+  pub anaUnmet : ticketBy 1 4 ≡ guardNotMet
+  pub benOne : ticketBy 2 2 ≡ notConsistent
+  pub benBoth : ticketBy 2 6 ≡ notEnabled
+
+-- THE COURSE EXAMPLE of tickets
+pub crown-tickets : CrownTickets
+unfolding computing-grounds constraintRefusal setRefusal ticketRefusal
+crown-tickets = record { anaBoth = refl; anaOne = refl; anaExcluded = refl; anaUnmet = refl; benOne = refl; benBoth = refl }

@@ -2,7 +2,7 @@
 use Prim.Native.Nat.{ℕ, _^_, _<_}
 use mathlib.Core.Path.{_≡_, refl, sym, _∙_, ap, subst}
 use mathlib.Core.Logic.{_↔_, _≢_}
-use mathlib.Core.Bool.{Bool, true, false, false≢true, not, cond, _&&_}
+use mathlib.Core.Bool.{Bool, true, false, false≢true, not, cond}
 use mathlib.Core.List.{List, [], _∷_}
 use mathlib.Core.Option.{Option, none, some}
 use native.Mathlib.Omega.{arith}
@@ -10,21 +10,19 @@ use lib.Dec.{leb, eqb}
 use lib.ListN.{length}
 use borrow.Author.Tests.{eqb-true, eqb-false, eq-eqb, ne-eqb, lt-leb, leb-false}
 use Rattle.common.specs.Limits.{mostEdges}
-use Rattle.common.specs.Lists.{every, same}
-use Rattle.common.specs.BoolLaws.{and-cases, and-both, or-left}
+use Rattle.common.specs.Lists.{same}
+use Rattle.common.specs.BoolLaws.{or-left}
 use Rattle.common.specs.Causes.{cause, first}
 use Rattle.common.specs.ListLaws.{length-table, same-self}
-use Rattle.common.specs.QuantifierLaws.{all-of}
 use Rattle.common.specs.Refusals.{edgeOutOfRange, edgePresent, edgeAbsent, edgesFull, noMethod, noObject, notUser, noSet}
-use Rattle.common.specs.Sets.{member}
-use Rattle.common.specs.SetLaws.{member-in, in-member, in-lt}
 use Rattle.policy.specs.declared.Record.{Record}
 use Rattle.policy.specs.Table.{edge, row}
 use Rattle.rows.specs.Checks.{edgeInRange}
 use Rattle.policy.specs.Edits.{without, added, removed}
 use Rattle.formula.specs.Formula.{isUser}
 use Rattle.justification.specs.declared.Question.{Question}
-use Rattle.justification.specs.Justification.{members, meets, consistent, least}
+use Rattle.justification.specs.Justification.{least}
+use Rattle.justification.specs.SatisfyingLaws.{passes, passes-satisfies, satisfies-inside, satisfies-passes}
 use Rattle.justification.specs.Predicates.{questionRefusal}
 use Rattle.justification.specs.Order.{IsLeast}
 use Rattle.justification.specs.OrderFact as order
@@ -38,15 +36,20 @@ use Rattle.access.specs.CorrectMemoLaws.{emptied-correct}
 use Rattle.memo.specs.Memo.{memoFor, newly}
 use Rattle.memo.specs.WalkLaws.{MemoLengths}
 use Rattle.search.specs.Search.{Before}
-use Rattle.history.specs.Book.{Call, add, remove, askEagerly, askLazily, Book, BookAnswer, firstBook, holdsEdge}
-use Rattle.history.specs.Book.{addRefusal, removeRefusal}
+use Rattle.search.specs.SearchLaws.{before-members}
+use Rattle.tickets.specs.declared.Ticket.{Ticket}
+use Rattle.tickets.specs.Tickets.{ticketOf, ticketRefusal, SetNumber}
+use Rattle.tickets.specs.TicketLaws.{set-number, ticket-after}
+use Rattle.history.specs.Book.{Call, add, remove, askEagerly, askLazily, checkTicket, Book, BookAnswer, firstBook, holdsEdge}
+use Rattle.history.specs.Book.{addRefusal, removeRefusal, checkRefusal}
 use Rattle.history.specs.Book.{askRefusal, verdict, enabledIn, ask, bookAfterCall, numberAndSet, engineLeaves}
 use Rattle.history.specs.Agrees.{Distinct, Agrees}
 use Rattle.history.specs.EditAgrees.{distinct-rows, add-number, add-agrees, add-refused, remove-number, remove-agrees, remove-refused}
 use Rattle.history.specs.EditAgrees.{emptied-lengths, without-holds}
-use Rattle.history.specs.AskAgrees.{refusal-is, eager-answer, eager-agrees, eager-refused, lazy-answer, lazy-agrees, lazy-refused}
+use Rattle.history.specs.AskAgrees.{refusal-is, check-number, eager-answer, eager-agrees, eager-refused, lazy-answer, lazy-agrees, lazy-refused}
 use Rattle.history.specs.FirstBook.{first-edges}
-use Rattle.history.specs.Demand3.{Changes, EditHolds, Known, Satisfies, QuestionHolds, BothForms, CallHolds, ListHolds, Demand3}
+use Rattle.history.specs.Demand3.{Changes, EditHolds, Known, Satisfies, QuestionHolds, BothForms, GrantHolds, NoMoreMembers}
+use Rattle.history.specs.Demand3.{TicketHolds, CallHolds, ListHolds, Demand3}
 
 -- ---- edits
 
@@ -135,43 +138,29 @@ module _ (b : Record) (book : Book) (r : Record) (h : Agrees b book r) where
             record { method = leb-false (b .«method_count») (q .method) p; object = leb-false (b .objects) (q .object) i; user = t }
         go false false false p i t e = absurd (omega arith)
 
-    -- a set that will do is one that passes
-    passes : ℕ → Bool
-    passes c = (consistent b c && meets b (q .method) (members b c)) && every (enabledIn b book q) (members b c)
+    -- the sets that will do are those that pass
+    abbrev will-do : ℕ → Bool
+    will-do c = passes b (q .method) (enabledIn b book q) c
 
-    passes-satisfies : (c : ℕ) → c < 2 ^ (b .«principal_count») → passes c ≡ true → Satisfies b book q c
-    unfolding passes
-    passes-satisfies c l e =
-        let (x, en) = and-cases (consistent b c && meets b (q .method) (members b c)) _ e in
-        let (co, me) = and-cases (consistent b c) _ x in
-        record {
-          grounds = l;
-          enabled =
-              λ p i. all-of (enabledIn b book q) (λ p. member p c) (b .«principal_count») .0 en p (in-lt (b .«principal_count») i l)
-              (in-member i);
-          consistent = co;
-          guard = me;
-        }
+    does : (c : ℕ) → c < 2 ^ (b .«principal_count») → will-do c ≡ true → Satisfies b book q c
+    does = passes-satisfies b (q .method) (enabledIn b book q)
 
-    satisfies-passes : (c : ℕ) → Satisfies b book q c → passes c ≡ true
-    unfolding passes
-    satisfies-passes c w =
-        and-both (consistent b c && meets b (q .method) (members b c)) _ (and-both (consistent b c) _ (w .consistent) (w .guard))
-        (all-of (enabledIn b book q) (λ p. member p c) (b .«principal_count») .1 (λ p l e. w .enabled p (member-in e)))
+    least-does : IsLeast (b .«principal_count») will-do (least b (q .method) (enabledIn b book q))
+    least-does = order.least-is b (q .method) (enabledIn b book q)
 
-    least-passes : IsLeast (b .«principal_count») passes (least b (q .method) (enabledIn b book q))
-    unfolding passes
-    least-passes = order.least-is b (q .method) (enabledIn b book q)
+    -- such a set, as a number that is looked for
+    found-among : {P : Type 0} (c : ℕ) → (c < 2 ^ (b .«principal_count») → will-do c ≡ true → P) → Satisfies b book q c → P
+    found-among c f w = f (satisfies-inside b (q .method) (enabledIn b book q) w) (satisfies-passes b (q .method) (enabledIn b book q) c w)
 
     -- what the verdict of a least set says
-    module _ (found : Option ℕ) (is : IsLeast (b .«principal_count») passes found) where
+    module _ (found : Option ℕ) (is : IsLeast (b .«principal_count») will-do found) where
       verdict-denied : (verdict found .number ≡ noSet) ↔ ((c : ℕ) → Satisfies b book q c → ⊥)
       verdict-denied = go found is
         where
-          go : (f : Option ℕ) → IsLeast (b .«principal_count») passes f
+          go : (f : Option ℕ) → IsLeast (b .«principal_count») will-do f
               → ((verdict f .number ≡ noSet) ↔ ((c : ℕ) → Satisfies b book q c → ⊥))
-          go none n = (λ e c w. n c (w .grounds) (satisfies-passes c w), λ f. refl)
-          go (some c) n = (λ e. absurd (omega arith), λ f. absurd (f c (passes-satisfies c (n .0) (n .1))))
+          go none n = (λ e c w. found-among c (n c) w, λ f. refl)
+          go (some c) n = (λ e. absurd (omega arith), λ f. absurd (f c (does c (n .0) (n .1))))
 
       verdict-empty : verdict found .number ≡ noSet → verdict found .set ≡ 0
       verdict-empty = go found
@@ -185,11 +174,11 @@ module _ (b : Record) (book : Book) (r : Record) (h : Agrees b book r) where
           × ((c : ℕ) → Satisfies b book q c → Before (verdict found .set) c)
       verdict-granted = go found is
         where
-          go : (f : Option ℕ) → IsLeast (b .«principal_count») passes f
+          go : (f : Option ℕ) → IsLeast (b .«principal_count») will-do f
               → verdict f .number ≢ noSet
               → (verdict f .number ≡ 0) × Satisfies b book q (verdict f .set) × ((c : ℕ) → Satisfies b book q c → Before (verdict f .set) c)
           go none n x = absurd (x refl)
-          go (some c) n x = (refl, passes-satisfies c (n .0) (n .1), λ d w. n .2 d (w .grounds) (satisfies-passes d w))
+          go (some c) n x = (refl, does c (n .0) (n .1), λ d w. found-among d (n .2 d) w)
 
     -- of any answer that is the book's reply
     question-holds : (a : Answer) → numberAndSet a ≡ ask b book q
@@ -200,14 +189,14 @@ module _ (b : Record) (book : Book) (r : Record) (h : Agrees b book r) where
         record {
           denied =
               λ k. subst (λ (v : BookAnswer). (v .number ≡ noSet) ↔ ((c : ℕ) → Satisfies b book q c → ⊥)) (sym (is-verdict k))
-              (verdict-denied (least b (q .method) (enabledIn b book q)) least-passes);
+              (verdict-denied (least b (q .method) (enabledIn b book q)) least-does);
           empty =
               λ k. subst (λ (v : BookAnswer). v .number ≡ noSet → v .set ≡ 0) (sym (is-verdict k))
-              (verdict-empty (least b (q .method) (enabledIn b book q)) least-passes);
+              (verdict-empty (least b (q .method) (enabledIn b book q)) least-does);
           granted =
               λ k. subst (λ (v : BookAnswer). v .number ≢ noSet → (v .number ≡ 0) × Satisfies b book q (v .set) ×
               ((c : ℕ) → Satisfies b book q c → Before (v .set) c)) (sym (is-verdict k))
-              (verdict-granted (least b (q .method) (enabledIn b book q)) least-passes);
+              (verdict-granted (least b (q .method) (enabledIn b book q)) least-does);
           counted = λ k. count (refusal-is b book r h q ∙ known-asked k);
           refused =
               λ n. (
@@ -235,16 +224,84 @@ module _ (b : Record) (book : Book) (r : Record) (h : Agrees b book r) where
         question-holds (lazy r q) (lazy-answer b book r h q) (lazy-counts r q)
         (λ z. lazy-refused b book r h q (askRefusal b q) (sym (refusal-is b book r h q)) z)
 
+    -- ---- a question's set as its ticket, and a ticket's question
+
+    -- a ticket is accepted where the book's graph lets its set do
+    accepted-book : (c : ℕ) → Known b q → Satisfies b book q c → checkRefusal b book (ticketOf q c) ≡ 0
+    accepted-book c k w =
+        rw (eq-eqb (askRefusal b q) 0 (known-asked k)) (set-number b (enabledIn b book q) (q .method) c .accepted .1 w)
+
+    -- a question that gets the number 0 was known
+    granted-known : (a : Answer) → QuestionHolds b book q r a → a .number ≡ 0 → Known b q
+    granted-known a hold z = go (eqb (askRefusal b q) 0) refl
+      where
+        go : (v : Bool) → eqb (askRefusal b q) 0 ≡ v → Known b q
+        go true u = asked-known (eqb-true (askRefusal b q) 0 u)
+        go false u = absurd (hold .refused (λ k. eqb-false (askRefusal b q) 0 u (known-asked k)) .3 z)
+
+    granted-set : (a : Answer) → QuestionHolds b book q r a → a .number ≡ 0 → checkRefusal b book (ticketOf q (a .set)) ≡ 0
+    granted-set a hold z =
+        let k = granted-known a hold z in
+        accepted-book (a .set) k (hold .granted k (λ n. let x : ⊥ = omega arith in x) .1)
+
+    grant-holds : (a : Answer) → QuestionHolds b book q r a → Agrees b book (a .rules) → GrantHolds q r a
+    grant-holds a hold left =
+        record {
+          before = λ z. check-number b book r h (ticketOf q (a .set)) ∙ granted-set a hold z;
+          after = λ z. check-number b book (a .rules) left (ticketOf q (a .set)) ∙ granted-set a hold z;
+        }
+
+    -- a set that will do: the question is granted with one that has no more members
+    no-more : (c : ℕ) (a : Answer) → QuestionHolds b book q r a → Known b q → Satisfies b book q c → NoMoreMembers (ticketOf q c) a
+    no-more c a hold k w =
+        let (z, s, least) = hold .granted k (λ n. hold .denied k .0 n c w) in
+        record { granted = z; members = before-members (least c w) }
+
     both-forms : BothForms r q
     both-forms =
         let s = same-always r q in
         record { number = s .number; set = s .set; evaluations = lazy-at-most r q }
 
+  -- ---- tickets
+
+  module _ (t : Ticket) where
+    abbrev asks : Question
+    asks = t .question
+
+    tested : Known b asks → SetNumber b (enabledIn b book asks) (asks .method) (t .set) (ticketRefusal r t)
+    tested k =
+        subst (SetNumber b (enabledIn b book asks) (asks .method) (t .set))
+        (sym (check-number b book r h t ∙ rw (eq-eqb (askRefusal b asks) 0 (known-asked asks k)) refl))
+        (set-number b (enabledIn b book asks) (asks .method) (t .set))
+
+    not-known : (Known b asks → ⊥) → questionRefusal r asks ≢ 0
+    not-known n z = n (asked-known asks (sym (refusal-is b book r h asks) ∙ z))
+
+    accepted-known : ticketRefusal r t ≡ 0 → Known b asks
+    accepted-known z = go (eqb (questionRefusal r asks) 0) refl
+      where
+        go : (v : Bool) → eqb (questionRefusal r asks) 0 ≡ v → Known b asks
+        go true u = asked-known asks (sym (refusal-is b book r h asks) ∙ eqb-true (questionRefusal r asks) 0 u)
+        go false u = let n = eqb-false (questionRefusal r asks) 0 u in absurd (n (sym (ticket-after r t n) ∙ z))
+
+    ticket-holds : TicketHolds b book t r (ticketRefusal r t) (engineLeaves r (checkTicket t))
+    unfolding engineLeaves
+    ticket-holds =
+        record {
+          tested = tested;
+          refused = λ n. let e = ticket-after r t (not-known n) in (λ z. not-known n (sym e ∙ z), e);
+          left = refl;
+          eagerly = λ z. let k = accepted-known z in no-more asks (t .set) (eager r asks) (eager-holds asks) k (tested k .accepted .0 z);
+          lazily = λ z. let k = accepted-known z in no-more asks (t .set) (lazy r asks) (lazy-holds asks) k (tested k .accepted .0 z);
+        }
+
   pub call-holds : (c : Call) → CallHolds b book r c
   call-holds (add l x y) = add-holds l x y
   call-holds (remove l x y) = remove-holds l x y
-  call-holds (askEagerly q) = (eager-holds q, both-forms q)
-  call-holds (askLazily q) = (lazy-holds q, both-forms q)
+  call-holds (askEagerly q) =
+      (eager-holds q, both-forms q, grant-holds q (eager r q) (eager-holds q) (eager-agrees b book r h q))
+  call-holds (askLazily q) = (lazy-holds q, both-forms q, grant-holds q (lazy r q) (lazy-holds q) (lazy-agrees b book r h q))
+  call-holds (checkTicket t) = ticket-holds t
 
   pub call-agrees : (c : Call) → Agrees b (bookAfterCall b book c) (engineLeaves r c)
   unfolding bookAfterCall engineLeaves
@@ -252,6 +309,7 @@ module _ (b : Record) (book : Book) (r : Record) (h : Agrees b book r) where
   call-agrees (remove l x y) = remove-agrees b book r h l x y
   call-agrees (askEagerly q) = eager-agrees b book r h q
   call-agrees (askLazily q) = lazy-agrees b book r h q
+  call-agrees (checkTicket t) = h
 
 -- ---- whole lists
 

@@ -19,7 +19,7 @@ use Rattle.common.specs.Sets.{In}
 use Rattle.common.specs.SetLaws.{none-in-zero, in-or-l, in-or-r, or-in, in-pow, pow-in}
 use Rattle.common.specs.BoolLaws.{and-cases, and-both, or-cases, or-left, or-right}
 use Rattle.closure.specs.Closure.{pairsOf}
-use Rattle.justification.specs.Masked.{AmongPairs}
+use Rattle.justification.specs.Satisfying.{AmongPairs}
 
 -- ---- one member more at a index
 

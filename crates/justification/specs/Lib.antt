@@ -1,7 +1,10 @@
 pub mod Justification
 pub mod Order
+pub mod Satisfying
+pub mod SatisfyingLaws
 pub mod Masked
 pub mod Predicates
+pub mod EnabledLaws
 pub mod MarkedSets
 pub mod OrderFact
 pub mod MaskLaws

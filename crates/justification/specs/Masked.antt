@@ -2,26 +2,17 @@
 use Prim.Native.Nat.{ℕ, _^_, _<_, _≤_}
 use mathlib.Core.Path.{_≡_}
 use mathlib.Core.Logic.{_↔_}
-use mathlib.Core.Bool.{true, not, _||_}
-use mathlib.Core.List.{List, [], _∷_}
+use mathlib.Core.Bool.{true, not}
 use mathlib.Core.Option.{Option, none, some}
 use lib.Dec.{eqb}
 use Rattle.common.specs.Limits.{privilegeCount}
-use Rattle.common.specs.Lists.{at, any, same}
+use Rattle.common.specs.Lists.{at}
 use Rattle.common.specs.Sets.{In}
-use Rattle.closure.specs.Closure.{pairsOf}
 use Rattle.policy.specs.declared.Record.{Record}
 use Rattle.search.specs.declared.Masks.{Masks}
 use Rattle.search.specs.Answers.{FoundValues, granted, denied}
 use Rattle.justification.specs.Justification.{demarcationHas, needs}
-
--- p and q are a pair of these columns, one way or the other
-abbrev pub AmongPairs : ℕ → List ℕ → List ℕ → ℕ → ℕ → Type 0
-AmongPairs n lows highs p q = (any (same (p ∷ q ∷ [])) (pairsOf n lows highs) || any (same (q ∷ p ∷ [])) (pairsOf n lows highs)) ≡ true
-
--- p and q are an excluded pair, one way or the other
-abbrev pub excluded : Record → ℕ → ℕ → Type 0
-excluded r p q = AmongPairs (r .«exclusion_count») (r .«exclusion_lows») (r .«exclusion_highs») p q
+use Rattle.justification.specs.Satisfying.{excluded}
 
 pub record Masked (r : Record) (m allowed : ℕ) (s : Masks) : Type 0 where
   pub few : r .«principal_count» ≤ 20

@@ -8,10 +8,10 @@ use lib.ListN.{length, take, drop, length-append}
 use lib.Seq.{drop-at}
 use Rattle.policy.specs.declared.Record.{Record}
 use Rattle.access.specs.declared.Answer.{Answer}
-use Rattle.replay.specs.Replay.{answerTo, answerOctets, listedCallAt, leftAfter, replies, answeredCount, bufferAfter}
+use Rattle.replay.specs.Replay.{callOctets, answerTo, answerOctets, listedCallAt, leftAfter, replies, answeredCount, bufferAfter}
 
 -- as many as are whole and fit
-pub whole-fit : (a b n : ℕ) → n ≡ min (a / 4) (b / 5) → (4 * n ≤ a) × (5 * n ≤ b)
+pub whole-fit : (a b n : ℕ) → n ≡ min (a / callOctets) (b / 5) → (callOctets * n ≤ a) × (5 * n ≤ b)
 whole-fit a b n e = (omega arith, omega arith)
 
 module _ (r : Record) (calls : List ℕ) where

@@ -18,7 +18,7 @@ use Rattle.justification.specs.Predicates.{questionRefusal}
 use Rattle.memo.specs.Walk.{Outcome, granted, denied, evaluatedAll, eagerly, walk}
 use Rattle.memo.specs.Memo.{memoFor}
 use Rattle.access.specs.Access.{truthAt, answered, refused, asked, eager, lazy}
-use Rattle.history.specs.Book.{add, remove, askEagerly, askLazily}
+use Rattle.history.specs.Book.{add, remove, askEagerly, askLazily, checkTicket}
 use Rattle.replay.specs.Replay.{ListedCall, call, liberally, strictly, unknown, answerTo}
 
 -- an edit, by its number
@@ -67,6 +67,7 @@ answer-loads r (call (askEagerly q)) =
     (eagerly r (q .method) (evaluatedAll (truthAt r q) r (memoFor (r .memo) q) (below (r .«principal_count»))))
 answer-loads r (call (askLazily q)) =
     asked-loads r (questionRefusal r q) (memoFor (r .memo) q) (walk (truthAt r q) r (memoFor (r .memo) q) (candidates r (q .method)))
+answer-loads r (call (checkTicket t)) = refl
 answer-loads r (liberally q) = refl
 answer-loads r (strictly q) = refl
 answer-loads r unknown = refl

@@ -10,35 +10,47 @@ use Rattle.policy.specs.declared.Record.{Record}
 use Rattle.reading.specs.Loading.{load}
 use Rattle.history.specs.Book.{Call, numberAndSet, engineAfter}
 use Rattle.history.specs.Demand3.{CallHolds}
-use Rattle.replay.specs.Replay.{ListedCall, call, listedCallOf, listedCallAt, answerTo, answerOctets, leftAfter, replies}
-use Rattle.replay.specs.Replay.{answeredCount, bufferAfter}
+use Rattle.octets.specs.Number.{number}
+use Rattle.replay.specs.Replay.{callOctets, callFieldsAt, ListedCall, call, listedCallOf, listedCallAt, answerTo, answerOctets}
+use Rattle.replay.specs.Replay.{leftAfter, replies, answeredCount, bufferAfter}
 use Rattle.replay.specs.AnswerLaws.{whole-fit, answer-at}
 use Rattle.replay.specs.ReplayLaws.{bookCallsOf, callsBefore, left-is, point-holds, point-answers}
 use Rattle.replay.specs.Parts.{Part, countIn, leftAfterParts, partsReplies, partsCalls, partsCount}
 use Rattle.replay.specs.Parts.{recordAt, bookAt, PointHolds, PartsHold}
 
+-- calls with the same octets are the same
+same-octets : (x y : List ℕ) (k l : ℕ) → ((d : ℕ) → d < callOctets → at x (k + d) ≡ at y (l + d))
+    → listedCallOf (callFieldsAt x k) ≡ listedCallOf (callFieldsAt y l)
+same-octets x y k l e =
+    λ j. listedCallOf
+    (record {
+      kind = e 0 (omega arith) j;
+      first = e 1 (omega arith) j;
+      second = e 2 (omega arith) j;
+      third = e 3 (omega arith) j;
+      set = number (e 4 (omega arith) j ∷ e 5 (omega arith) j ∷ e 6 (omega arith) j ∷ e 7 (omega arith) j ∷ []);
+    })
+
 -- ---- two parts: a is n whole calls
 
-module _ (a b : List ℕ) (n : ℕ) (whole : length a ≡ 4 * n) where
-  at-first : (k : ℕ) → k < 4 * n → at (a ++ b) k ≡ at a k
+module _ (a b : List ℕ) (n : ℕ) (whole : length a ≡ callOctets * n) where
+  at-first : (k : ℕ) → k < callOctets * n → at (a ++ b) k ≡ at a k
   at-first k l = List·getD-append a b 0 k (omega arith)
 
-  at-later : (k : ℕ) → at (a ++ b) (4 * n + k) ≡ at b k
+  at-later : (k : ℕ) → at (a ++ b) (callOctets * n + k) ≡ at b k
   at-later k = ap (λ (m : ℕ). at (a ++ b) (m + k)) (sym whole) ∙ getD-append-add a b k 0
 
   -- the calls of a, then those of b
   first-call : (i : ℕ) → i < n → listedCallAt (a ++ b) i ≡ listedCallAt a i
-  first-call i l j =
-      listedCallOf (at-first (4 * i) (omega arith) j) (at-first (4 * i + 1) (omega arith) j) (at-first (4 * i + 2) (omega arith) j)
-      (at-first (4 * i + 3) (omega arith) j)
+  first-call i l = same-octets (a ++ b) a (callOctets * i) (callOctets * i) (λ d k. at-first (callOctets * i + d) (omega arith))
 
-  later-at : (i k : ℕ) → at (a ++ b) (4 * (n + i) + k) ≡ at b (4 * i + k)
-  later-at i k = let e : 4 * (n + i) + k ≡ 4 * n + (4 * i + k) = omega arith in ap (at (a ++ b)) e ∙ at-later (4 * i + k)
+  later-at : (i k : ℕ) → at (a ++ b) (callOctets * (n + i) + k) ≡ at b (callOctets * i + k)
+  later-at i k =
+      let e : callOctets * (n + i) + k ≡ callOctets * n + (callOctets * i + k) = omega arith in
+      ap (at (a ++ b)) e ∙ at-later (callOctets * i + k)
 
   pub later-call : (i : ℕ) → listedCallAt (a ++ b) (n + i) ≡ listedCallAt b i
-  later-call i =
-      let e : 4 * (n + i) ≡ 4 * n + 4 * i = omega arith in
-      λ j. listedCallOf ((ap (at (a ++ b)) e ∙ at-later (4 * i)) j) (later-at i 1 j) (later-at i 2 j) (later-at i 3 j)
+  later-call i = same-octets (a ++ b) b (callOctets * (n + i)) (callOctets * i) (λ d k. later-at i d)
 
   first-calls : (i : ℕ) → i ≤ n → callsBefore (a ++ b) i ≡ callsBefore a i
   unfolding callsBefore
@@ -121,28 +133,28 @@ module _ (a b : List ℕ) (n : ℕ) (whole : length a ≡ 4 * n) where
 -- ---- any parts
 
 -- the calls that a part answers are whole
-whole-calls : (p : Part) → length (take (4 * countIn p) (p .calls)) ≡ 4 * countIn p
-whole-calls p = length-take-le (4 * countIn p) (p .calls) (whole-fit (length (p .calls)) (length (p .buffer)) (countIn p) refl .0)
+whole-calls : (p : Part) → length (take (callOctets * countIn p) (p .calls)) ≡ callOctets * countIn p
+whole-calls p = length-take-le (callOctets * countIn p) (p .calls) (whole-fit (length (p .calls)) (length (p .buffer)) (countIn p) refl .0)
 
 module _ (r : Record) (p : Part) where
   abbrev cut : List ℕ
-  cut = take (4 * countIn p) (p .calls)
+  cut = take (callOctets * countIn p) (p .calls)
 
   -- what is past them does not matter
   cut-left : leftAfter r (p .calls) (countIn p) ≡ leftAfter r cut (countIn p)
   cut-left =
-      ap (λ (os : List ℕ). leftAfter r os (countIn p)) (sym (take-append-drop (4 * countIn p) (p .calls)))
-      ∙ first-left cut (drop (4 * countIn p) (p .calls)) (countIn p) (whole-calls p) r (countIn p) (omega arith)
+      ap (λ (os : List ℕ). leftAfter r os (countIn p)) (sym (take-append-drop (callOctets * countIn p) (p .calls)))
+      ∙ first-left cut (drop (callOctets * countIn p) (p .calls)) (countIn p) (whole-calls p) r (countIn p) (omega arith)
 
   cut-replies : replies r (p .calls) (countIn p) ≡ replies r cut (countIn p)
   cut-replies =
-      ap (λ (os : List ℕ). replies r os (countIn p)) (sym (take-append-drop (4 * countIn p) (p .calls)))
-      ∙ first-replies cut (drop (4 * countIn p) (p .calls)) (countIn p) (whole-calls p) r (countIn p) (omega arith)
+      ap (λ (os : List ℕ). replies r os (countIn p)) (sym (take-append-drop (callOctets * countIn p) (p .calls)))
+      ∙ first-replies cut (drop (callOctets * countIn p) (p .calls)) (countIn p) (whole-calls p) r (countIn p) (omega arith)
 
-pub whole-parts : (ps : List Part) → length (partsCalls ps) ≡ 4 * partsCount ps
+pub whole-parts : (ps : List Part) → length (partsCalls ps) ≡ callOctets * partsCount ps
 unfolding partsCalls partsCount
 whole-parts [] = refl
-whole-parts (p ∷ ps) = omega (arith, length-append (take (4 * countIn p) (p .calls)) (partsCalls ps), whole-calls p, whole-parts ps)
+whole-parts (p ∷ ps) = omega (arith, length-append (take (callOctets * countIn p) (p .calls)) (partsCalls ps), whole-calls p, whole-parts ps)
 
 -- the parts leave the record, and get the answers, of the one list
 pub parts-left : (r : Record) (ps : List Part) → leftAfterParts r ps ≡ leftAfter r (partsCalls ps) (partsCount ps)
@@ -151,7 +163,7 @@ parts-left r [] = refl
 parts-left r (p ∷ ps) =
     parts-left (leftAfter r (p .calls) (countIn p)) ps
     ∙ ap (λ (x : Record). leftAfter x (partsCalls ps) (partsCount ps)) (cut-left r p)
-    ∙ sym (joined-left (take (4 * countIn p) (p .calls)) (partsCalls ps) (countIn p) (whole-calls p) r (partsCount ps))
+    ∙ sym (joined-left (take (callOctets * countIn p) (p .calls)) (partsCalls ps) (countIn p) (whole-calls p) r (partsCount ps))
 
 pub parts-replies : (r : Record) (ps : List Part) → partsReplies r ps ≡ replies r (partsCalls ps) (partsCount ps)
 unfolding partsReplies partsCalls partsCount replies
@@ -159,7 +171,7 @@ parts-replies r [] = refl
 parts-replies r (p ∷ ps) =
     (λ j. cut-replies r p j ++ (parts-replies (leftAfter r (p .calls) (countIn p)) ps
     ∙ ap (λ (x : Record). replies x (partsCalls ps) (partsCount ps)) (cut-left r p)) j)
-    ∙ sym (joined-replies (take (4 * countIn p) (p .calls)) (partsCalls ps) (countIn p) (whole-calls p) r (partsCount ps))
+    ∙ sym (joined-replies (take (callOctets * countIn p) (p .calls)) (partsCalls ps) (countIn p) (whole-calls p) r (partsCount ps))
 
 -- the record left is the engine's after all calls of the parts
 pub parts-engine : (r : Record) (ps : List Part) → leftAfterParts r ps ≡ engineAfter r (callsBefore (partsCalls ps) (partsCount ps))

@@ -7,7 +7,7 @@ use Rattle.policy.specs.declared.Record.{Record}
 use Rattle.reading.specs.Loading.{load}
 use Rattle.history.specs.Book.{Call, Book, bookAnswer, numberAndSet, engineAfter}
 use Rattle.history.specs.Demand3.{CallHolds}
-use Rattle.replay.specs.Replay.{call, listedCallAt, answerTo, answerOctets, answeredCount, leftAfter, replies, bufferAfter}
+use Rattle.replay.specs.Replay.{callOctets, call, listedCallAt, answerTo, answerOctets, answeredCount, leftAfter, replies, bufferAfter}
 use Rattle.replay.specs.ReplayLaws.{callsBefore, book}
 
 -- what is given at once: octets of calls, and a buffer for their answers
@@ -31,7 +31,7 @@ partsReplies r (p ∷ ps) = replies r (p .calls) (countIn p) ++ partsReplies (le
 -- the calls that the parts answer, in one list, and how many they are
 unfoldable pub partsCalls : List Part → List ℕ
 partsCalls [] = []
-partsCalls (p ∷ ps) = take (4 * countIn p) (p .calls) ++ partsCalls ps
+partsCalls (p ∷ ps) = take (callOctets * countIn p) (p .calls) ++ partsCalls ps
 
 unfoldable pub partsCount : List Part → ℕ
 partsCount [] = 0

@@ -5,11 +5,11 @@ use mathlib.Core.Path.{_≡_, refl, sym, _∙_, ap, subst}
 use mathlib.Core.List.{List, [], _∷_, _++_}
 use Rattle.policy.specs.declared.Record.{Record}
 use Rattle.reading.specs.Loading.{load}
-use Rattle.history.specs.Book.{Call, add, remove, askEagerly, askLazily, Book, plain, firstBook, bookAfterCall, bookAnswer, bookAfter}
-use Rattle.history.specs.Book.{numberAndSet, engineLeaves, engineAfter}
+use Rattle.history.specs.Book.{Call, add, remove, askEagerly, askLazily, checkTicket, Book, plain, firstBook}
+use Rattle.history.specs.Book.{bookAfterCall, bookAnswer, bookAfter, numberAndSet, engineLeaves, engineAfter}
 use Rattle.history.specs.Agrees.{Agrees}
 use Rattle.history.specs.EditAgrees.{add-number, remove-number}
-use Rattle.history.specs.AskAgrees.{eager-answer, lazy-answer}
+use Rattle.history.specs.AskAgrees.{eager-answer, lazy-answer, check-number}
 use Rattle.history.specs.Demand3.{CallHolds}
 use Rattle.history.specs.Theorem.{call-holds, call-agrees, start}
 use Rattle.replay.specs.Replay.{ListedCall, call, liberally, strictly, unknown, answerTo, listedCallAt, leftAfter}
@@ -37,6 +37,7 @@ leaves r (call (add l x y)) = refl
 leaves r (call (remove l x y)) = refl
 leaves r (call (askEagerly q)) = refl
 leaves r (call (askLazily q)) = refl
+leaves r (call (checkTicket t)) = refl
 leaves r (liberally q) = refl
 leaves r (strictly q) = refl
 leaves r unknown = refl
@@ -64,6 +65,7 @@ answer-is b book r h (add l x y) = ap (λ (k : ℕ). plain k) (add-number b book
 answer-is b book r h (remove l x y) = ap (λ (k : ℕ). plain k) (remove-number b book r h l x y)
 answer-is b book r h (askEagerly q) = eager-answer b book r h q
 answer-is b book r h (askLazily q) = lazy-answer b book r h q
+answer-is b book r h (checkTicket t) = ap (λ (k : ℕ). plain k) (check-number b book r h t)
 
 -- ---- a record just loaded, and any octets of calls
 

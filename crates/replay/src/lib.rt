@@ -3,14 +3,15 @@
 
 ghost use mathlib.Core.Path.{_≡_};
 ghost use mathlib.Core.List.{[], _∷_, _++_};
-ghost use Prim.Native.Nat.{_+_, _/_, _≤_, min};
+ghost use Prim.Native.Nat.{ℕ, _+_, _/_, _≤_, min};
 ghost use lib.ListN.{length, take, drop};
-ghost use Rattle.octets.specs.Number.{inOctets};
+ghost use Rattle.octets.specs.Number.{number, inOctets};
 ghost use Rattle.policy.specs.declared.Record as records;
 ghost use Rattle.policy.specs.Loadable as validity;
 ghost use Rattle.policy.specs.Typed.{Typed};
 ghost use Rattle.access.specs.Access.{leaves};
-ghost use Rattle.replay.specs.Replay.{listedCallOf, questionOf, editAnswer, verdictAnswer, answerTo};
+ghost use Rattle.replay.specs.Replay.{callOctets, callFieldsAt, questionOf, listedCallOf};
+ghost use Rattle.replay.specs.Replay.{numberAnswer, editAnswer, verdictAnswer, answerTo};
 ghost use Rattle.replay.specs.Replay.{answeredCount, bufferAfter, replayed};
 use access::Answer;
 use access::Decision;
@@ -19,6 +20,48 @@ use justification::Verdict;
 use policy::Edited;
 use policy::Memo;
 use policy::Record;
+use tickets::Ticket;
+
+// A call is eight octets: kind, three numbers, and the set number in 4 octets, the high one first. Its answer is five.
+const CALL_OCTETS: usize = 8;
+
+const ANSWER_OCTETS: usize = 5;
+
+// A call as it is listed. What a kind has no use for is ignored.
+pub struct CallFields {
+    pub kind: u8,
+    pub first: u8,
+    pub second: u8,
+    pub third: u8,
+    pub set: u32,
+}
+
+// The number of four octets, the high one first.
+fn number_of(a: u8, b: u8, c: u8, d: u8) -> u32
+    ensures { λ r. ⌜ r ≡ number (a ∷ b ∷ c ∷ d ∷ []) ⌝ }
+{
+    (a as u32) * 16777216 + (b as u32) * 65536 + (c as u32) * 256 + (d as u32)
+}
+
+// The call whose octets begin at a place.
+fn call_at(calls: &[u8], place: usize) -> CallFields
+    requires { ⌜ place + callOctets ≤ length (now calls) ⌝ }
+    ensures { λ r. ⌜ r ≡ callFieldsAt (now (calls .entry)) place ⌝ }
+{
+    let set = number_of(
+        calls[place + 4],
+        calls[place + 5],
+        calls[place + 6],
+        calls[place + 7],
+    );
+    CallFields {
+        kind: calls[place],
+        first: calls[place + 1],
+        second: calls[place + 2],
+        third: calls[place + 3],
+        set: set,
+    }
+}
 
 // An edit's answer: no set, no evaluation.
 fn edit_answer(edited: Edited) -> Answer
@@ -53,64 +96,80 @@ fn verdict_decision(memo: Memo, verdict: Verdict) -> Decision
     }
 }
 
-// The question of a call: method, object, requestor.
-fn question_of(a: u8, b: u8, c: u8) -> Question
-    ensures { λ r. ⌜ r ≡ questionOf a b c ⌝ }
+// What a number alone comes to: no set, no evaluation; the memo stays.
+fn number_decision(memo: Memo, number: u8) -> Decision
+    ensures { λ r. ⌜ ((rules : records.Record) → memo ≡ rules .memo → leaves rules r ≡ numberAnswer rules number) ⌝ }
 {
-    Question {
-        method: a,
-        object: b,
-        requestor: c,
+    Decision {
+        number: number,
+        set: 0,
+        evaluations: 0,
+        memo: memo,
     }
 }
 
-// Answers one call: 0 add, 1 remove, 2 eager, 3 lazy, 4 liberal, 5 strict; a kind above 5 is answered with 4.
-pub fn answer(rules: Record, kind: u8, a: u8, b: u8, c: u8) -> Answer
-    ensures { λ r. ⌜ (r ≡ answerTo rules (listedCallOf kind a b c)) × Typed rules ⌝ }
+// The question of a call: method, object, requestor.
+fn question_of(call: CallFields) -> Question
+    ensures { λ r. ⌜ r ≡ questionOf call ⌝ }
+{
+    Question {
+        method: call.first,
+        object: call.second,
+        requestor: call.third,
+    }
+}
+
+// Answers one call: 0 add, 1 remove, 2 eager, 3 lazy, 4 liberal, 5 strict, 6 ticket; a kind above 6 is answered with 4.
+pub fn answer(rules: Record, call: CallFields) -> Answer
+    ensures { λ r. ⌜ (r ≡ answerTo rules (listedCallOf call)) × Typed rules ⌝ }
 {
     let loads = policy::loadable::loadable(rules);
-    answer_given(rules, loads, kind, a, b, c)
+    answer_given(rules, loads, call)
 }
 
 // The same, where it is known whether some bundle loads to the record.
-fn answer_given(rules: Record, loads: bool, kind: u8, a: u8, b: u8, c: u8) -> Answer
+fn answer_given(rules: Record, loads: bool, call: CallFields) -> Answer
     requires { ⌜ loads ≡ validity.loadable rules ⌝ }
-    ensures { λ r. ⌜ r ≡ answerTo rules (listedCallOf kind a b c) ⌝ }
+    ensures { λ r. ⌜ r ≡ answerTo rules (listedCallOf call) ⌝ }
 {
+    let kind = call.kind;
     match kind {
-        0 => edit_answer(rules.add_edge_given(loads, a, b, c)),
-        1 => edit_answer(rules.remove_edge_given(loads, a, b, c)),
-        _ => access::answer_of(rules, decision_of(rules, loads, kind, a, b, c)),
+        0 => edit_answer(rules.add_edge_given(loads, call.first, call.second, call.third)),
+        1 => edit_answer(rules.remove_edge_given(loads, call.first, call.second, call.third)),
+        _ => access::answer_of(rules, decision_of(rules, loads, call)),
     }
 }
 
-// What a call comes to that is no edit: 2 eager, 3 lazy, 4 liberal, 5 strict; a kind above 5 is answered with 4.
-fn decision_of(rules: Record, loads: bool, kind: u8, a: u8, b: u8, c: u8) -> Decision
-    requires { ⌜ (loads ≡ validity.loadable rules) × (2 ≤ kind) ⌝ }
-    ensures { λ r. ⌜ leaves rules r ≡ answerTo rules (listedCallOf kind a b c) ⌝ }
+// What a call comes to that is no edit: 2 eager, 3 lazy, 4 liberal, 5 strict, 6 ticket; a kind above 6 is answered with 4.
+fn decision_of(rules: Record, loads: bool, call: CallFields) -> Decision
+    requires { ⌜ (loads ≡ validity.loadable rules) × (2 ≤ call .kind) ⌝ }
+    ensures { λ r. ⌜ leaves rules r ≡ answerTo rules (listedCallOf call) ⌝ }
 {
-    let question = question_of(a, b, c);
+    let question = question_of(call);
     let memo = rules.memo;
+    let kind = call.kind;
     match kind {
         2 => access::decide_eagerly(rules, loads, question),
         3 => access::decide_lazily(rules, loads, question),
         4 => verdict_decision(memo, predicates::liberal_given(rules, loads, question)),
         5 => verdict_decision(memo, predicates::strict_given(rules, loads, question)),
-        _ => Decision {
-            number: common::WRONG_KIND,
-            set: 0,
-            evaluations: 0,
-            memo: memo,
-        },
+        6 => {
+            let ticket = Ticket {
+                question: question,
+                set: call.set,
+            };
+            number_decision(memo, tickets::check_given(rules, loads, ticket))
+        }
+        _ => number_decision(memo, common::WRONG_KIND),
     }
 }
 
 // How many calls are whole in the calls and have room in the answers.
 fn answerable(calls: usize, answers: usize) -> usize
-    ensures { λ r. ⌜ r ≡ min (calls / 4) (answers / 5) ⌝ }
+    ensures { λ r. ⌜ r ≡ min (calls / callOctets) (answers / 5) ⌝ }
 {
-    let whole = calls / 4;
-    let room = answers / 5;
+    let whole = calls / CALL_OCTETS;
+    let room = answers / ANSWER_OCTETS;
     if whole < room {
         return whole;
     }
@@ -147,26 +206,23 @@ pub fn answer_all(rules: Record, calls: &[u8], answers: &mut [u8]) -> Replayed
     let mut r = rules;
     let mut i: usize = 0;
     while i < n {
-        let at = 4 * i;
-        let place = 5 * i;
-        let kind = calls[at];
-        let a = calls[at + 1];
-        let b = calls[at + 2];
-        let c = calls[at + 3];
+        let place = ANSWER_OCTETS * i;
+        let call = call_at(calls, CALL_OCTETS * i);
+        let kind = call.kind;
         i += 1;
         match kind {
             0 => {
-                let e = r.add_edge_given(loads, a, b, c);
+                let e = r.add_edge_given(loads, call.first, call.second, call.third);
                 put_answer(answers, place, e.number, 0, 0);
                 r = e.rules;
             }
             1 => {
-                let e = r.remove_edge_given(loads, a, b, c);
+                let e = r.remove_edge_given(loads, call.first, call.second, call.third);
                 put_answer(answers, place, e.number, 0, 0);
                 r = e.rules;
             }
             _ => {
-                let d = decision_of(r, loads, kind, a, b, c);
+                let d = decision_of(r, loads, call);
                 put_answer(answers, place, d.number, d.set, d.evaluations);
                 let memo = d.memo;
                 r.memo = memo;

@@ -13,7 +13,7 @@ ghost use Rattle.common.specs.Limits.{mostPrincipals, mostRelated};
 ghost use Rattle.common.specs.Lists.{at};
 ghost use Rattle.common.specs.Sets.{In, Apart, Within};
 ghost use Rattle.search.specs.Answers.{foundValues};
-ghost use Rattle.search.specs.Search.{ConsistentIn, Consistent, Candidate, Least};
+ghost use Rattle.search.specs.Search.{ConsistentIn, Consistent, Met, Candidate, Least};
 ghost use Rattle.search.specs.Steps.{Decides, MetBy, Gathers, ConflictFree, NoneHolds, Asks, NoneFrom, NeededBy};
 ghost use Rattle.search.specs.Steps.{WithinFrom, Joins, State, Completed};
 use common::MOST_PRINCIPALS;
@@ -166,6 +166,16 @@ pub fn consistent(masks: Masks, s: u32) -> bool
     true
 }
 
+// Whether the members of s meet the guard. Which principals are allowed makes no difference.
+pub fn met(masks: Masks, s: u32) -> bool
+    requires { ⌜ masks .count ≤ mostPrincipals ⌝ }
+    requires { ⌜ s < 2 ^ (masks .count) ⌝ }
+    ensures { λ r. ⌜ Decides r (Met (masks .every) masks s) ⌝ }
+{
+    let granted = granted_by(masks, s);
+    meets(masks.every, masks.wanted, granted)
+}
+
 // Whether s is a candidate.
 fn candidate(masks: Masks, s: u32) -> bool
     requires { ⌜ masks .count ≤ mostPrincipals ⌝ }
@@ -175,8 +185,7 @@ fn candidate(masks: Masks, s: u32) -> bool
     if !within(s, masks.allowed) {
         return false;
     }
-    let granted = granted_by(masks, s);
-    if meets(masks.every, masks.wanted, granted) {
+    if met(masks, s) {
         consistent(masks, s)
     } else {
         false

@@ -7,15 +7,10 @@ use borrow.Author.Needs.{needs}
 use Rattle.common.specs.Limits.{mostPrincipals}
 use Rattle.common.specs.Lists.{at}
 use Rattle.common.specs.Sets.{In}
-use Rattle.policy.specs.declared.Record.{Record}
-use Rattle.policy.specs.Table.{user, edge, formula, principal}
+use Rattle.policy.specs.Table.{user, edge, principal}
 use Rattle.policy.specs.LoadableLaws.{table-few}
-use Rattle.formula.specs.Formula.{holds}
 use Rattle.formula.specs.Evaluation.{trueAtObject}
-use Rattle.formula.specs.EvaluationLaws.{true-at-holds}
-use Rattle.justification.specs.declared.Question.{Question}
-use Rattle.justification.specs.Predicates.{isEnabled}
-use Rattle.policy.specs.NamedLaws.{principal-named}
+use Rattle.justification.specs.EnabledLaws.{enabled-at}
 use Rattle.justification.specs.MarkedSets.{Those}
 use Rattle.justification.proofs.Marking.{those-none, those-more, those-skip, those-end}
 use Rattle.predicates.proofs.enabled_of.Statement.{statement}
@@ -27,11 +22,6 @@ Inv-loop among rules n object requestor roles s₀ p₀ s p =
 
 abbrev μ-loop : tie.MeasureT-loop
 μ-loop among rules n object requestor roles s₀ p₀ s p = n - p
-
-is-enabled : (r : Record) (q : Question) (p : ℕ)
-    → holds r (at (r .«principal_formulas») p) (q .object) (q .object) (q .requestor) ≡ isEnabled r q p
-unfolding isEnabled
-is-enabled r q p = refl
 
 -- the places passed: the function's entry from the loop, the index of a formula from where the columns were lent, the loop's test
 -- from there
@@ -109,12 +99,7 @@ returns c =
     let r = s .args .t1 in
     let q = s .args .question in
     let roles = a .before .roles-of .result in
-    let same : (p : ℕ) → p < r .«principal_count» → trueAtObject r roles (q .object) (q .requestor) (at (r .«principal_formulas») p) ≡
-    isEnabled r q p =
-    λ p l.
-    true-at-holds r (at (r .«principal_formulas») p) (q .object) (q .requestor) roles (a .before .roles-of .ensures)
-    (principal-named r (s .pre) p l .0) (table-few r formula (s .pre formula))
-    ∙ is-enabled r q p in
+    let same = enabled-at r q roles (s .pre) (a .before .roles-of .ensures) in
     let found = those-end {n = r .«principal_count»} (omega (arith, c .loop-test .left, a .loop .inv .1)) (a .loop .inv .0) in
     record {
       only = λ p i. let (l, x) = found .only p i in (l, (x .0, sym (same p l) ∙ x .1));

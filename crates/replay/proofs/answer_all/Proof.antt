@@ -1,14 +1,17 @@
 -- `answer_all` meets its contract.
 use Prim.Native.Nat.{_+_, _-_, _*_, _≤_}
-use mathlib.Core.Path.{_≡_, ap}
+use mathlib.Core.Path.{_≡_, _∙_, ap}
 use native.Mathlib.Omega.{arith}
 use lib.ListN.{length}
 use borrow.Author.Needs.{needs}
 use Rattle.policy.specs.Table.{withMemo}
 use Rattle.policy.specs.Loadable.{loadable}
 use Rattle.policy.specs.declared.Edited.{Edited}
+use Rattle.policy.specs.declared.Record.{Record}
+use Rattle.access.specs.declared.Answer.{Answer}
 use Rattle.access.specs.Access.{leaves}
-use Rattle.replay.specs.Replay.{answerTo, editAnswer}
+use Rattle.replay.specs.declared.CallFields.{CallFields}
+use Rattle.replay.specs.Replay.{callOctets, listedCallOf, listedCallAt, answerTo, editAnswer}
 use Rattle.replay.specs.AnswerLaws.{whole-fit}
 use Rattle.replay.proofs.AnswerCases.{answer-case}
 use Rattle.replay.proofs.Replaying.{Replaying, replaying-start, replaying-length, replaying-on}
@@ -28,7 +31,7 @@ entry c = c .before .before .before .before .before .before
 
 -- the calls to answer are whole, and fit
 fits : (c : tie.In-loop Inv-loop μ-loop)
-    → (4 * c .before .before .before .answerable .result ≤ length (entry c .args .calls .now))
+    → (callOctets * c .before .before .before .answerable .result ≤ length (entry c .args .calls .now))
     × (5 * c .before .before .before .answerable .result ≤ length (entry c .args .answers .now))
 fits c = whole-fit _ _ _ (c .before .before .before .answerable .ensures)
 
@@ -36,9 +39,13 @@ fits c = whole-fit _ _ _ (c .before .before .before .answerable .ensures)
 room : (c : tie.In-loop Inv-loop μ-loop) → 5 * c .before .loop .i + 5 ≤ length (c .before .loop .answers)
 room c = omega (arith, fits c .1, c .loop-test .taken, replaying-length (c .before .loop .inv .0) (fits c .1))
 
--- a step of the loop, from where the call has been read
-abbrev read : tie.After-shared-slice-known5 Inv-loop μ-loop → tie.In-loop Inv-loop μ-loop
-read c = c .before .before .before .before
+-- a step of the loop, from where the call has been read; the call is the one at its place
+abbrev read : tie.After-call-at Inv-loop μ-loop → tie.In-loop Inv-loop μ-loop
+read c = c .before
+
+read-is : (c : tie.After-call-at Inv-loop μ-loop) (r : Record) {got : Answer} → got ≡ answerTo r (listedCallOf (c .call-at .result))
+    → got ≡ answerTo r (listedCallAt (entry (read c) .args .calls .now) (read c .before .loop .i))
+read-is c r e = e ∙ ap (λ (f : CallFields). answerTo r (listedCallOf f)) (c .call-at .ensures)
 
 answerable-requires : tie.Need-answerable-requires Inv-loop μ-loop
 answerable-requires c κs = search needs
@@ -49,35 +56,17 @@ loadable-requires c κs = search needs
 loop-holds : tie.Need-loop-holds Inv-loop μ-loop
 loop-holds c = (replaying-start _ _ _ _, c .loadable .ensures .decides)
 
-mul-at : tie.Need-mul-at Inv-loop μ-loop
-mul-at c = omega (arith, fits c .0, entry c .good .1 .0)
-
 mul-place : tie.Need-mul-place Inv-loop μ-loop
-mul-place c = omega (arith, fits c .1, entry c .good .1 .1 .0)
+mul-place c = omega (arith, fits c .1, c .loop-test .taken, entry c .good .1 .1 .0)
 
-shared-slice-read-kind : tie.Need-shared-slice-read-kind Inv-loop μ-loop
-shared-slice-read-kind c = omega (arith, fits (c .before) .0)
+mul-call-at : tie.Need-mul-call-at Inv-loop μ-loop
+mul-call-at c = omega (arith, fits c .0, c .loop-test .taken, entry c .good .1 .0)
 
-add-a : tie.Need-add-a Inv-loop μ-loop
-add-a c = omega (arith, fits (c .before) .0, entry (c .before) .good .1 .0)
-
-shared-slice-read-a : tie.Need-shared-slice-read-a Inv-loop μ-loop
-shared-slice-read-a c = omega (arith, fits (c .before .before) .0)
-
-add-b : tie.Need-add-b Inv-loop μ-loop
-add-b c = omega (arith, fits (c .before .before) .0, entry (c .before .before) .good .1 .0)
-
-shared-slice-read-b : tie.Need-shared-slice-read-b Inv-loop μ-loop
-shared-slice-read-b c = omega (arith, fits (c .before .before .before) .0)
-
-add-c : tie.Need-add-c Inv-loop μ-loop
-add-c c = omega (arith, fits (c .before .before .before) .0, entry (c .before .before .before) .good .1 .0)
-
-shared-slice-read-c : tie.Need-shared-slice-read-c Inv-loop μ-loop
-shared-slice-read-c c = omega (arith, fits (read c) .0)
+call-at-requires : tie.Need-call-at-requires Inv-loop μ-loop
+call-at-requires c κs = omega (arith, fits c .0, c .loop-test .taken)
 
 add-i : tie.Need-add-i Inv-loop μ-loop
-add-i c = omega (arith, fits (read c) .1, entry (read c) .good .1 .1 .0)
+add-i c = omega (arith, fits (read c) .1, read c .loop-test .taken, entry (read c) .good .1 .1 .0)
 
 -- ---- an edge is added
 
@@ -99,7 +88,7 @@ loop-again c =
     let h = read (m .before) in
     let l = h .before .loop in
     replaying-on (l .inv .0) (fits h .1) (editAnswer (x .add-edge-given .result)) (h .loop-test .taken) (l .inv .1)
-    (answer-case _ _ 0 _ _ _ (m .match .keys1) (ap (λ (e : Edited). editAnswer e) (x .add-edge-given .ensures)))
+    (read-is (m .before) (l .r) (answer-case _ _ 0 (m .match .keys1) (ap (λ (e : Edited). editAnswer e) (x .add-edge-given .ensures))))
     (p .put-answer .ensures)
 
 -- ---- an edge is removed
@@ -122,7 +111,7 @@ loop-again-2 c =
     let h = read (m .before) in
     let l = h .before .loop in
     replaying-on (l .inv .0) (fits h .1) (editAnswer (x .remove-edge-given .result)) (h .loop-test .taken) (l .inv .1)
-    (answer-case _ _ 1 _ _ _ (m .match .keys2) (ap (λ (e : Edited). editAnswer e) (x .remove-edge-given .ensures)))
+    (read-is (m .before) (l .r) (answer-case _ _ 1 (m .match .keys2) (ap (λ (e : Edited). editAnswer e) (x .remove-edge-given .ensures))))
     (p .put-answer2 .ensures)
 
 -- ---- a call that is no edit
@@ -145,7 +134,7 @@ loop-again-3 c =
     let h = read (m .before) in
     let l = h .before .loop in
     replaying-on (l .inv .0) (fits h .1) (leaves (l .r) (x .decision-of .result)) (h .loop-test .taken) (l .inv .1)
-    (x .decision-of .ensures)
+    (read-is (m .before) (l .r) (x .decision-of .ensures))
     (p .put-answer3 .ensures)
 
 same-length : tie.Need-same-length Inv-loop μ-loop
@@ -171,15 +160,9 @@ answer-all-spec =
     answerable-requires
     loadable-requires
     loop-holds
-    mul-at
     mul-place
-    shared-slice-read-kind
-    add-a
-    shared-slice-read-a
-    add-b
-    shared-slice-read-b
-    add-c
-    shared-slice-read-c
+    mul-call-at
+    call-at-requires
     add-i
     add-edge-given-requires
     put-answer-requires

@@ -31,7 +31,7 @@ unfolding answerTo
 returns c =
     let m = c .before .before in
     let a = m .before .args in
-    answer-case (a .rules) (a .kind) 0 (a .a) (a .b) (a .c) (m .match .keys1)
+    answer-case (a .rules) (a .call) 0 (m .match .keys1)
     (c .edit-answer .ensures ∙ ap (λ (x : Edited). editAnswer x) (c .before .add-edge-given .ensures))
 
 returns-2 : tie.Need-returns-2
@@ -39,7 +39,7 @@ unfolding answerTo
 returns-2 c =
     let m = c .before .before in
     let a = m .before .args in
-    answer-case (a .rules) (a .kind) 1 (a .a) (a .b) (a .c) (m .match .keys2)
+    answer-case (a .rules) (a .call) 1 (m .match .keys2)
     (c .edit-answer2 .ensures ∙ ap (λ (x : Edited). editAnswer x) (c .before .remove-edge-given .ensures))
 
 returns-3 : tie.Need-returns-3
