@@ -35,6 +35,8 @@ mod side;
 mod spread;
 #[path = "ratios/table.rs"]
 mod table;
+#[path = "ratios/tickets.rs"]
+mod tickets;
 #[path = "ratios/tower.rs"]
 mod tower;
 #[path = "ratios/workload.rs"]
@@ -78,6 +80,7 @@ fn main() {
     }
     let covers = is_wanted(cover::TITLE).then(|| cover::workloads(&mut longest));
     section(cover::TITLE, || covers.unwrap_or_default(), &mut longest);
+    section(tickets::TITLE, tickets::workloads, &mut longest);
     section("edits", edits::workloads, &mut longest);
     section("10,000 mixed calls", mixed::workloads, &mut longest);
     let lent = section(lent::TITLE, lent::workloads, &mut longest);

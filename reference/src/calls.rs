@@ -1,7 +1,11 @@
 //! The calls on bytes: over a record that the caller lends, and over a bundle alone.
 
+use crate::line;
 use crate::policy::Policy;
 use crate::question::Answer;
+
+/// The octets of a call: its kind, three numbers, and the set number in 4 octets.
+pub const CALL_OCTETS: usize = 8;
 
 /// Loads a bundle into a lent record. A refused one returns "number, line" and leaves the "blank
 /// record".
@@ -22,8 +26,9 @@ pub fn load(record: &mut Policy, bundle: &[u8]) -> u64 {
 /// many calls are answered as are whole in calls and have room in answers; bytes past them stay."
 pub fn answer(record: &mut Policy, calls: &[u8], answers: &mut [u8]) -> u64 {
     let mut count = 0;
-    for (call, place) in calls.chunks_exact(4).zip(answers.chunks_exact_mut(5)) {
-        let answer = answer_one(record, call[0], call[1], call[2], call[3]);
+    let whole = calls.chunks_exact(CALL_OCTETS);
+    for (call, place) in whole.zip(answers.chunks_exact_mut(5)) {
+        let answer = answer_one(record, call);
         place.copy_from_slice(&octets(answer));
         count += 1;
     }
@@ -65,9 +70,12 @@ pub fn replay(bundle: &[u8], calls: &[u8], answers: &mut [u8]) -> u64 {
     }
 }
 
-/// "kind (0 add, 1 remove, 2 eager, 3 lazy, 4 liberal, 5 strict), then (label, from, to) or
-/// (method, object, requestor)"; "A kind above 5 is answered with number 4 and changes nothing."
-fn answer_one(record: &mut Policy, kind: u8, x: u8, y: u8, z: u8) -> Answer {
+/// The kinds are 0 add, 1 remove, 2 eager, 3 lazy, 4 liberal, 5 strict, 6 ticket; then come (label,
+/// from, to) or (method, object, requestor), then the set number, "the high octet first", which
+/// only a ticket has a use for. Another kind is answered with number 4 and changes nothing.
+fn answer_one(record: &mut Policy, call: &[u8]) -> Answer {
+    let [kind, x, y, z] = [call[0], call[1], call[2], call[3]];
+    let set = line::number(&call[4..]) as u32;
     match kind {
         0 => plain(record.add_edge(x, y, z), 0),
         1 => plain(record.remove_edge(x, y, z), 0),
@@ -75,6 +83,7 @@ fn answer_one(record: &mut Policy, kind: u8, x: u8, y: u8, z: u8) -> Answer {
         3 => record.ask_lazy(x, y, z),
         4 => yes_or_no(record.liberal(x, y, z)),
         5 => yes_or_no(record.strict(x, y, z)),
+        6 => plain(record.check_ticket(x, y, z, set), 0),
         _ => plain(4, 0),
     }
 }

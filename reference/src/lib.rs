@@ -16,9 +16,10 @@ mod policy;
 mod predicate;
 mod question;
 mod relation;
+mod ticket;
 mod write;
 
-pub use calls::{answer, load, replay, rewrite, write};
+pub use calls::{answer, load, replay, rewrite, write, CALL_OCTETS};
 pub use load::Refusal;
 pub use policy::Policy;
 pub use question::Answer;

@@ -22,10 +22,15 @@ impl Policy {
         Ok(alone.any(|set| grounds.meets(set, method)))
     }
 
-    /// "A principal is enabled when its formula is true at o", here "afresh without the memo".
+    /// All principals that are enabled.
     fn enabled_afresh(&self, o: u8, s: u8) -> u32 {
         (0..self.principals.len())
-            .filter(|&p| self.is_true(self.principals[p].formula, o, o, s))
+            .filter(|&p| self.is_enabled_afresh(p, o, s))
             .fold(0, |set, p| set | 1 << p)
+    }
+
+    /// "A principal is enabled when its formula is true at o", here "afresh without the memo".
+    pub(crate) fn is_enabled_afresh(&self, principal: usize, o: u8, s: u8) -> bool {
+        self.is_true(self.principals[principal].formula, o, o, s)
     }
 }

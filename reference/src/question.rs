@@ -25,8 +25,8 @@ impl Policy {
         self.ask(method, object, requestor, Policy::lazy_set)
     }
 
-    /// "19 comes first, then: ... questions 14, 15, 16", the same for liberal and strict; otherwise
-    /// the method named.
+    /// "19 comes first, then: ... questions 14, 15, 16", the same for liberal and strict and for
+    /// tickets; otherwise the method named.
     pub(crate) fn checked(&self, method: u8, object: u8, requestor: u8) -> Result<Method, u8> {
         if !self.is_loadable() {
             return Err(19);

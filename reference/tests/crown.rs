@@ -3,7 +3,7 @@
 mod support;
 
 use reference::{replay, rewrite, Answer, Policy};
-use support::{bundle, crown, refused, weights, SMALLEST};
+use support::{bundle, call, crown, refused, weights, SMALLEST};
 
 const ANA: u8 = 1;
 const BEN: u8 = 2;
@@ -160,7 +160,7 @@ fn replay_answers_each_call_on_the_record_left() {
         [2, 0, 0, 1],
         [4, 3, 0, 1],
         [5, 3, 0, 1],
-        [6, 0, 0, 0],
+        [7, 0, 0, 0],
         [1, 1, 0, 1],
         [3, 0, 0, 1],
         [1, 1, 0, 1],
@@ -175,19 +175,27 @@ fn replay_answers_each_call_on_the_record_left() {
         [17, 0, 0, 0, 1],
         [12, 0, 0, 0, 0],
     ];
-    let mut answers = [0xAA; 44];
-    assert_eq!(replay(&crown(), calls.as_flattened(), &mut answers), 8);
-    assert_eq!(answers[..40], *expected.as_flattened());
-    assert_eq!(answers[40..], [0xAA; 4]);
+    for ignored in [0, 6, u32::MAX] {
+        let calls = calls.map(|numbers| call(numbers, ignored));
+        let mut answers = [0xAA; 44];
+        assert_eq!(replay(&crown(), calls.as_flattened(), &mut answers), 8);
+        assert_eq!(answers[..40], *expected.as_flattened());
+        assert_eq!(answers[40..], [0xAA; 4]);
+    }
 }
 
 #[test]
 fn replay_stops_at_whole_calls_and_whole_answers() {
     let mut answers = [0xAA; 14];
-    assert_eq!(replay(&crown(), &[9; 40], &mut answers), 2);
+    assert_eq!(replay(&crown(), &[9; 80], &mut answers), 2);
     assert_eq!(answers, [4, 0, 0, 0, 0, 4, 0, 0, 0, 0, 170, 170, 170, 170]);
-    assert_eq!(replay(&crown(), &[0, 2, 0, 1, 3, 0, 0], &mut answers), 1);
-    assert_eq!(replay(b"", &[9; 40], &mut answers), 8 << 32);
+    let calls = [call([0, 2, 0, 1], 0), call([3, 0, 0, 1], 0)];
+    for length in 8..16 {
+        let given = &calls.as_flattened()[..length];
+        assert_eq!(replay(&crown(), given, &mut answers), 1);
+    }
+    assert_eq!(replay(&crown(), &calls[0][..7], &mut answers), 0);
+    assert_eq!(replay(b"", &[9; 80], &mut answers), 8 << 32);
     assert_eq!(answers, [0, 0, 0, 0, 0, 4, 0, 0, 0, 0, 170, 170, 170, 170]);
 }
 

@@ -50,6 +50,10 @@ mod support;
 mod tally;
 #[path = "differential/tally_lent.rs"]
 mod tally_lent;
+#[path = "differential/tally_tickets.rs"]
+mod tally_tickets;
+#[path = "differential/tickets.rs"]
+mod tickets;
 
 use random::{fresh_seed, Random};
 use std::process::ExitCode;

@@ -3,7 +3,7 @@
 mod support;
 
 use reference::{answer, load, replay, write, Policy};
-use support::{bundle, crown, crown_lines, SMALLEST};
+use support::{bundle, call, crown, crown_lines, SMALLEST};
 
 /// The question of the crown table's (a), and the edit of its (j).
 const ASK: [u8; 4] = [3, 0, 0, 1];
@@ -17,9 +17,14 @@ fn loaded() -> Policy {
 }
 
 /// The answer to one call.
-fn one(record: &mut Policy, call: [u8; 4]) -> [u8; 5] {
+fn one(record: &mut Policy, numbers: [u8; 4]) -> [u8; 5] {
+    ticket(record, numbers, 0)
+}
+
+/// The answer to one call with a set number.
+fn ticket(record: &mut Policy, numbers: [u8; 4], set: u32) -> [u8; 5] {
     let mut answers = [0xAA; 5];
-    assert_eq!(answer(record, &call, &mut answers), 1);
+    assert_eq!(answer(record, &call(numbers, set), &mut answers), 1);
     answers
 }
 
@@ -46,7 +51,7 @@ fn each_call_finds_the_record_that_the_calls_before_it_left() {
     ];
     assert_eq!(found, expected);
     let mut answers = [0; 25];
-    let calls = [ASK, ASK, REMOVE, ASK, REMOVE];
+    let calls = [ASK, ASK, REMOVE, ASK, REMOVE].map(|numbers| call(numbers, 0));
     assert_eq!(replay(&crown(), calls.as_flattened(), &mut answers), 5);
     assert_eq!(answers, expected.as_flattened());
 }
@@ -56,11 +61,13 @@ fn calls_that_are_not_answered_leave_the_record() {
     let mut record = loaded();
     let mut answers = [0xAA; 9];
     assert_eq!(answer(&mut record, &[], &mut answers), 0);
-    assert_eq!(answer(&mut record, &REMOVE[..3], &mut answers), 0);
-    assert_eq!(answer(&mut record, &REMOVE, &mut answers[..4]), 0);
+    let [ask, remove] = [ASK, REMOVE].map(|numbers| call(numbers, 0));
+    assert_eq!(answer(&mut record, &remove[..4], &mut answers), 0);
+    assert_eq!(answer(&mut record, &remove[..7], &mut answers), 0);
+    assert_eq!(answer(&mut record, &remove, &mut answers[..4]), 0);
     assert_eq!(answers, [0xAA; 9]);
     assert_eq!(record, loaded());
-    let both = [ASK, REMOVE];
+    let both = [ask, remove];
     assert_eq!(answer(&mut record, both.as_flattened(), &mut answers), 1);
     assert_eq!(answers, [0, 0, 0, 6, 2, 0xAA, 0xAA, 0xAA, 0xAA]);
     assert_eq!(text(&record), crown());
@@ -75,7 +82,7 @@ fn refused_calls_leave_the_record_and_17_all_but_the_memo() {
         [1, 9, 0, 1],
         [2, 9, 0, 1],
         [3, 0, 0, 0],
-        [6; 4],
+        [7; 4],
     ] {
         assert_ne!(one(&mut record, call)[0], 0);
         assert_eq!(record, before);
@@ -83,6 +90,28 @@ fn refused_calls_leave_the_record_and_17_all_but_the_memo() {
     assert_eq!(one(&mut record, [3, 0, 0, 2]), [17, 0, 0, 0, 2]);
     assert_ne!(record, before);
     assert_eq!(text(&record), crown());
+}
+
+#[test]
+fn tickets_leave_the_record_memo_included() {
+    let mut record = loaded();
+    let tickets = [
+        ([6, 0, 0, 1], 0b110, 0),
+        ([6, 0, 0, 1], 0b010, 21),
+        ([6, 0, 0, 1], 0b100, 22),
+        ([6, 0, 0, 2], 0b110, 20),
+        ([6, 0, 0, 2], 1 << 31, 20),
+        ([6, 0, 0, 0], 0b110, 16),
+    ];
+    for evaluations in [2, 0] {
+        let before = record.clone();
+        for (numbers, set, number) in tickets {
+            let answers = ticket(&mut record, numbers, set);
+            assert_eq!(answers, [number, 0, 0, 0, 0]);
+            assert_eq!(record, before);
+        }
+        assert_eq!(one(&mut record, ASK), [0, 0, 0, 6, evaluations]);
+    }
 }
 
 #[test]
@@ -129,9 +158,9 @@ fn the_writer_refuses_with_18_and_19_and_leaves_the_buffer() {
 #[test]
 fn a_record_that_was_never_loaded_refuses_every_call_with_19() {
     let mut record = Policy::zeroed();
-    for kind in 0..6 {
+    for kind in 0..7 {
         assert_eq!(one(&mut record, [kind, 0, 0, 0]), [19, 0, 0, 0, 0]);
     }
-    assert_eq!(one(&mut record, [6, 0, 0, 0]), [4, 0, 0, 0, 0]);
+    assert_eq!(one(&mut record, [7, 0, 0, 0]), [4, 0, 0, 0, 0]);
     assert_eq!(record, Policy::zeroed());
 }

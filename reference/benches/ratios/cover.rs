@@ -4,8 +4,8 @@ use crate::bundles;
 use crate::longest::Longest;
 use crate::policy::Lines;
 use crate::random::Random;
-use crate::support::weights;
-use crate::workload::{Call, Workload, EAGER, LAZY};
+use crate::support::{call, weights, Call};
+use crate::workload::{Workload, EAGER, LAZY};
 
 /// So many instances are drawn, and the slowest ones taken.
 const INSTANCES: usize = 100;
@@ -42,7 +42,7 @@ pub fn workloads(longest: &mut Longest) -> Vec<Workload> {
 /// Asks the engine once about an instance.
 fn tried(name: &str, lines: &Lines, kind: u8, longest: &mut Longest) -> Tried {
     let workload = Workload::slow(name, lines, cycle(kind), 50, 1);
-    let (micros, number) = longest.question(TITLE, &workload, [kind, 0, 0, 0]);
+    let (micros, number) = longest.question(TITLE, &workload, call([kind, 0, 0, 0], 0));
     Tried {
         micros,
         number,
@@ -64,7 +64,7 @@ fn slowest(sort: &str, tried: Vec<Tried>) -> Option<Workload> {
 
 /// The question about two objects in turn.
 fn cycle(kind: u8) -> Vec<Call> {
-    vec![[kind, 0, 0, 0], [kind, 0, 1, 0]]
+    vec![call([kind, 0, 0, 0], 0), call([kind, 0, 1, 0], 0)]
 }
 
 /// A policy with one user, two objects and one method that wants all 64 privileges.

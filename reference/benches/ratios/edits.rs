@@ -2,8 +2,8 @@
 
 use crate::bundles::{self, of_kind};
 use crate::policy::Lines;
-use crate::support;
-use crate::workload::{Call, Workload, ADD, REMOVE};
+use crate::support::{self, call, Call};
+use crate::workload::{Workload, ADD, REMOVE};
 
 /// Accepted and refused edits on both.
 pub fn workloads() -> Vec<Workload> {
@@ -50,11 +50,11 @@ fn refused(lines: &Lines) -> Vec<Call> {
     vec![
         edit(ADD, &edges[edges.len() / 2]),
         edit(REMOVE, &missing.expect("some edge is not there")),
-        [ADD, 0, 0, 255],
+        call([ADD, 0, 0, 255], 0),
     ]
 }
 
 /// The call for an edit of an edge.
-fn edit(kind: u8, edge: &[u8]) -> Call {
-    [kind, edge[0], edge[1], edge[2]]
+pub fn edit(kind: u8, edge: &[u8]) -> Call {
+    call([kind, edge[0], edge[1], edge[2]], 0)
 }

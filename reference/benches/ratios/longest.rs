@@ -3,7 +3,8 @@
 use crate::clock;
 use crate::engine;
 use crate::spread::number;
-use crate::workload::{Call, Task, Workload, ADD, REMOVE};
+use crate::support::Call;
+use crate::workload::{Task, Workload, ADD, REMOVE, TICKET};
 use std::collections::BTreeSet;
 
 /// No question should take longer than so many microseconds.
@@ -35,7 +36,7 @@ impl Longest {
         let questions: BTreeSet<Call> = calls.cycle.iter().copied().collect();
         let questions = questions
             .into_iter()
-            .filter(|call| !matches!(call[0], ADD | REMOVE));
+            .filter(|call| !matches!(call[0], ADD | REMOVE | TICKET));
         for question in questions.take(MOST) {
             self.question(title, workload, question);
         }

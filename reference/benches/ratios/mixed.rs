@@ -1,11 +1,12 @@
 //! Long lists of edits and questions of all kinds.
 
 use crate::bundles::{self, of_kind};
+use crate::edits::edit;
 use crate::policy::Lines;
 use crate::questions;
 use crate::random::Random;
-use crate::support;
-use crate::workload::{Call, Workload, ADD, MOST_CALLS, REMOVE};
+use crate::support::{self, Call};
+use crate::workload::{Workload, ADD, MOST_CALLS, REMOVE};
 use std::collections::BTreeSet;
 
 /// The list on a policy of moderate size and on the crown.
@@ -23,19 +24,19 @@ fn list(lines: &Lines) -> Vec<Call> {
     let mut random = bundles::random(5);
     let mut edges: BTreeSet<Vec<u8>> = of_kind(lines, 3).into_iter().collect();
     let mut call = |_| match random.octet_between(0, 5) {
-        0 | 1 => edit(&mut random, lines, &mut edges),
+        0 | 1 => next_edit(&mut random, lines, &mut edges),
         kind => questions::any(&mut random, lines, kind),
     };
     (0..MOST_CALLS).map(&mut call).collect()
 }
 
 /// Adds a new edge or removes an old one, so that their number stays about the same.
-fn edit(random: &mut Random, lines: &Lines, edges: &mut BTreeSet<Vec<u8>>) -> Call {
+fn next_edit(random: &mut Random, lines: &Lines, edges: &mut BTreeSet<Vec<u8>>) -> Call {
     let room = edges.len() < of_kind(lines, 3).len();
     let mut edge = any_edge(random, lines);
     if room {
         edges.insert(edge.clone());
-        return [ADD, edge[0], edge[1], edge[2]];
+        return edit(ADD, &edge);
     }
     edge = edges
         .range(edge..)
@@ -44,7 +45,7 @@ fn edit(random: &mut Random, lines: &Lines, edges: &mut BTreeSet<Vec<u8>>) -> Ca
         .cloned()
         .expect("an edge");
     edges.remove(&edge);
-    [REMOVE, edge[0], edge[1], edge[2]]
+    edit(REMOVE, &edge)
 }
 
 /// A label in use and any two objects.

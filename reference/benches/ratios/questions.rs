@@ -1,14 +1,15 @@
 //! Questions on the crown and on a full policy.
 
 use crate::bundles::{self, of_kind};
+use crate::engine;
 use crate::policy::Lines;
 use crate::random::Random;
-use crate::support;
-use crate::workload::{Call, Workload, EAGER, LAZY, MOST_CALLS, QUESTIONS};
+use crate::support::{self, call, Call};
+use crate::workload::{Workload, EAGER, LAZY, MOST_CALLS, QUESTIONS};
 
 /// The crown's users.
-const ANA: u8 = 1;
-const BEN: u8 = 2;
+pub const ANA: u8 = 1;
+pub const BEN: u8 = 2;
 
 /// So many different questions on the full policy keep the reference busy for long enough.
 const SLOW: usize = 100;
@@ -46,7 +47,7 @@ fn crown_alternating(name: &str, kind: u8) -> Workload {
 /// Half the calls by Ana, then half by Ben, methods in turn.
 fn repeated(kind: u8) -> Vec<Call> {
     let by = |requestor: u8| {
-        let calls = [0, 1, 2, 3].map(|method| [kind, method, 0, requestor]);
+        let calls = [0, 1, 2, 3].map(|method| call([kind, method, 0, requestor], 0));
         calls.repeat(MOST_CALLS / 8)
     };
     [by(ANA), by(BEN)].concat()
@@ -54,7 +55,7 @@ fn repeated(kind: u8) -> Vec<Call> {
 
 /// Each method by Ana, then by Ben, so that every call empties the memo.
 fn alternating(kind: u8) -> Vec<Call> {
-    let both = |method: u8| [ANA, BEN].map(|requestor| [kind, method, 0, requestor]);
+    let both = |method: u8| [ANA, BEN].map(|requestor| call([kind, method, 0, requestor], 0));
     (0..4).flat_map(both).collect()
 }
 
@@ -78,7 +79,7 @@ fn full_kind(lines: &Lines, (kind, name): (u8, &str)) -> Workload {
     if !slow {
         return Workload::calls(name, lines, cycle);
     }
-    let name = format!("{name} ({} of {SLOW} granted)", granted(lines, &cycle));
+    let name = format!("{name} ({} of {SLOW} granted)", accepted(lines, &cycle));
     Workload::slow(&name, lines, cycle, 10, 1)
 }
 
@@ -87,15 +88,20 @@ pub fn any(random: &mut Random, lines: &Lines, kind: u8) -> Call {
     let users = of_kind(lines, 2);
     let method = random.below(of_kind(lines, 10).len()) as u8;
     let object = random.below(lines[0][2].into()) as u8;
-    [kind, method, object, users[random.below(users.len())][0]]
+    let requestor = users[random.below(users.len())][0];
+    call([kind, method, object, requestor], 0)
 }
 
-/// How many of the questions are granted.
-fn granted(lines: &Lines, cycle: &[Call]) -> usize {
-    let mut answers = vec![0; cycle.len() * 5];
-    crate::engine::replay(&support::bundle(lines), &cycle.concat(), &mut answers);
+/// How many of the calls are answered with number 0.
+pub fn accepted(lines: &Lines, cycle: &[Call]) -> usize {
+    let answers = answers(lines, cycle);
+    answers.iter().filter(|answer| answer[0] == 0).count()
+}
+
+/// What the engine answers to the calls.
+pub fn answers(lines: &Lines, cycle: &[Call]) -> Vec<[u8; 5]> {
+    let mut answers = vec![[0; 5]; cycle.len()];
+    let bundle = support::bundle(lines);
+    engine::replay(&bundle, &cycle.concat(), answers.as_flattened_mut());
     answers
-        .chunks_exact(5)
-        .filter(|answer| answer[0] == 0)
-        .count()
 }

@@ -3,6 +3,7 @@
 use crate::clock;
 use crate::side::{Lent, Side};
 use crate::workload::{Task, Workload};
+use reference::CALL_OCTETS;
 use std::hint::black_box;
 
 /// Work is repeated until so many microseconds have passed.
@@ -31,7 +32,7 @@ impl Run<'_> {
             side,
             workload,
             record,
-            answers: vec![0; calls.len() / 4 * 5],
+            answers: vec![0; calls.len() / CALL_OCTETS * 5],
             out: vec![0; workload.bundle.len()],
             calls,
         }
@@ -39,7 +40,7 @@ impl Run<'_> {
 
     /// The microseconds of the workload's task: of one loading, one writing or one call.
     pub fn round(&mut self) -> f64 {
-        let count = (self.calls.len() / 4) as f64;
+        let count = (self.calls.len() / CALL_OCTETS) as f64;
         match (&self.workload.task, self.workload.lent) {
             (Task::Load, false) => self.each(Run::load),
             (Task::Write, false) => self.beyond_loading(Run::write),
@@ -89,7 +90,7 @@ impl Run<'_> {
 
     /// Answers all calls on the lent record, each by itself.
     fn answer_singly(&mut self) -> u64 {
-        let calls = self.calls.chunks_exact(4);
+        let calls = self.calls.chunks_exact(CALL_OCTETS);
         let places = self.answers.chunks_exact_mut(5);
         calls
             .zip(places)

@@ -3,7 +3,7 @@
 use crate::longest::Longest;
 use crate::measure::{self, Beside, Row};
 use crate::policy::Lines;
-use crate::support::weights;
+use crate::support::{call, weights};
 use crate::table;
 use crate::workload::{Workload, EAGER};
 
@@ -59,7 +59,7 @@ fn row(workload: &Workload, height: u8, estimate: f64) -> Row {
 
 /// Two objects asked about in turn, so that every call evaluates the tower.
 fn workload(height: u8) -> Workload {
-    let cycle = vec![[EAGER, 0, 0, 0], [EAGER, 0, 1, 0]];
+    let cycle = vec![call([EAGER, 0, 0, 0], 0), call([EAGER, 0, 1, 0], 0)];
     let reference = [500, 500, 50, 5, 1][usize::from(height.min(HIGHEST_RUN))];
     Workload::slow(
         &format!("height {height}"),

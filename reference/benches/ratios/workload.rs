@@ -1,10 +1,7 @@
 //! What is measured: a bundle, and what is done with it.
 
 use crate::policy::Lines;
-use crate::support;
-
-/// A call: kind and three numbers.
-pub type Call = [u8; 4];
+use crate::support::{self, Call};
 
 /// The kinds of call.
 pub const ADD: u8 = 0;
@@ -13,6 +10,7 @@ pub const EAGER: u8 = 2;
 pub const LAZY: u8 = 3;
 pub const LIBERAL: u8 = 4;
 pub const STRICT: u8 = 5;
+pub const TICKET: u8 = 6;
 
 /// The four kinds of question, by name.
 pub const QUESTIONS: [(u8, &str); 4] = [

@@ -1,10 +1,13 @@
-//! Lists of calls on a policy, four octets each.
+//! Lists of calls on a policy.
 
 use crate::policy::Lines;
 use crate::random::Random;
+use crate::support::{bundle, call, Call};
+use crate::tickets::Proposals;
+use reference::Policy;
 
-/// A call: kind and three numbers.
-pub type Call = [u8; 4];
+/// The kind of a ticket, the last that is known.
+pub const TICKET: u8 = 6;
 
 /// What a list of calls needs to know of a policy.
 pub struct Subject {
@@ -13,12 +16,15 @@ pub struct Subject {
     edges: Vec<[u8; 3]>,
     methods: u8,
     principals: usize,
+    record: Policy,
 }
 
 /// A list that is being made.
 struct Making<'a> {
     random: &'a mut Random,
     subject: &'a Subject,
+    /// The record that the edits so far leave, on which tickets are made up.
+    record: Policy,
     calls: Vec<Call>,
     /// The pair of the last run of questions.
     pair: (u8, u8),
@@ -27,7 +33,7 @@ struct Making<'a> {
 }
 
 impl Subject {
-    /// Reads it off the lines.
+    /// Reads it off the lines, which load.
     pub fn of(lines: &Lines) -> Subject {
         let of = |kind: u8| lines.iter().filter(move |line| line[0] == kind);
         Subject {
@@ -36,6 +42,7 @@ impl Subject {
             edges: of(3).map(|line| [line[1], line[2], line[3]]).collect(),
             methods: of(10).count() as u8,
             principals: of(7).count(),
+            record: Policy::load(&bundle(lines)).expect("the lines load"),
         }
     }
 
@@ -45,6 +52,7 @@ impl Subject {
         let mut making = Making {
             random,
             subject: self,
+            record: self.record.clone(),
             calls: Vec::new(),
             pair,
             questions: ((1 << 22) >> self.principals).clamp(1, 30),
@@ -60,7 +68,7 @@ impl Making<'_> {
     /// One or several calls that belong together.
     fn section(&mut self) {
         let crowded = self.subject.edges.len() >= 508;
-        match self.random.below(12) {
+        match self.random.below(15) {
             0..=2 if crowded => self.several_adds(),
             0..=5 => self.questions_on_one_pair(),
             6 => self.question_amiss(),
@@ -68,8 +76,33 @@ impl Making<'_> {
             8 => self.add_and_undo(),
             9 => self.remove_and_undo(),
             10 => self.any_edit(),
+            11 | 12 => self.tickets_of_one_question(),
+            13 => self.ticket_around_an_edit(),
             _ => self.anything(),
         }
+    }
+
+    /// Puts a call into the list. All but tickets have no use for the set number, so it may be any.
+    fn push(&mut self, numbers: [u8; 4]) {
+        let any = self.random.next() as u32;
+        let set = self.random.pick(&[0, any]);
+        self.push_with(numbers, set);
+    }
+
+    /// Puts a call with this set number into the list, and does it if it is an edit.
+    fn push_with(&mut self, numbers: [u8; 4], set: u32) {
+        let [kind, x, y, z] = numbers;
+        match kind {
+            0 => self.record.add_edge(x, y, z),
+            1 => self.record.remove_edge(x, y, z),
+            _ => 0,
+        };
+        self.calls.push(call(numbers, set));
+    }
+
+    /// Puts a ticket into the list.
+    fn push_ticket(&mut self, [method, object, requestor]: [u8; 3], set: u32) {
+        self.push_with([TICKET, method, object, requestor], set);
     }
 
     /// An object: mostly one that edges or users know of, so that relations reach it.
@@ -105,32 +138,80 @@ impl Making<'_> {
         self.random.pick(&[2, 3])
     }
 
-    /// Several questions about one object by one requestor, so that the memo is used; half the
-    /// time the pair of the last run, so that what came between may or may not have kept it.
-    fn questions_on_one_pair(&mut self) {
+    /// A pair of object and requestor: half the time that of the last run, so that what came
+    /// between may or may not have kept the memo.
+    fn next_pair(&mut self) -> (u8, u8) {
         if self.random.one_in(2) {
             self.pair = (self.object(), self.user());
         }
-        let (object, requestor) = self.pair;
+        self.pair
+    }
+
+    /// Any method of the policy.
+    fn method(&mut self) -> u8 {
+        self.random.below(self.subject.methods.into()) as u8
+    }
+
+    /// Several questions about one object by one requestor, so that the memo is used.
+    fn questions_on_one_pair(&mut self) {
+        let (object, requestor) = self.next_pair();
         for _ in 0..self.random.between(1, 5) {
             let kind = self.question_kind();
-            let method = self.random.below(self.subject.methods.into()) as u8;
-            self.calls.push([kind, method, object, requestor]);
+            let method = self.method();
+            self.push([kind, method, object, requestor]);
         }
     }
 
-    /// A question with one or more numbers out of range.
+    /// Several tickets for one question, which is now and then put too, before them or between.
+    fn tickets_of_one_question(&mut self) {
+        let (object, requestor) = self.next_pair();
+        let question = [self.method(), object, requestor];
+        let proposals = self.proposals(question);
+        for _ in 0..self.random.between(1, 5) {
+            if self.random.one_in(5) {
+                let kind = self.question_kind();
+                self.push([kind, question[0], object, requestor]);
+            }
+            let set = proposals.set(self.random);
+            self.push_ticket(question, set);
+        }
+    }
+
+    /// What to propose for a question on the record as it is now.
+    fn proposals(&mut self, question: [u8; 3]) -> Proposals {
+        let affordable = self.questions > 0;
+        self.questions = self.questions.saturating_sub(1);
+        let count = self.subject.principals;
+        Proposals::of(&self.record, question, count, affordable)
+    }
+
+    /// The same ticket before an edit, after it, and after it is undone.
+    fn ticket_around_an_edit(&mut self) {
+        let new = self.new_edge();
+        let old = self.old_edge().unwrap_or(new);
+        let edge = self.random.pick(&[new, old, old]);
+        let question = self.about(edge);
+        let proposals = self.proposals(question);
+        let set = proposals.set(self.random);
+        let kind = self.random.octet_between(0, 1);
+        self.push_ticket(question, set);
+        for kind in [kind, 1 - kind] {
+            self.edit(kind, edge);
+            self.push_ticket(question, set);
+        }
+    }
+
+    /// A question or a ticket with one or more numbers out of range.
     fn question_amiss(&mut self) {
-        let kind = self.random.octet_between(2, 5);
-        let mut call = [kind, 0, self.object(), self.user()];
-        call[1] = self.random.below(self.subject.methods.into()) as u8;
+        let kind = self.random.octet_between(2, TICKET);
+        let mut call = [kind, self.method(), self.object(), self.user()];
         for _ in 0..self.random.between(1, 2) {
             let any = self.random.octet();
             let place = self.random.between(1, 3);
             let limit = [0, self.subject.methods, self.subject.objects, any][place];
             call[place] = self.random.pick(&[limit, limit, 255, any]);
         }
-        self.calls.push(call);
+        self.push(call);
     }
 
     /// An edit with one number out of range, mostly just so.
@@ -140,7 +221,7 @@ impl Making<'_> {
         let place = self.random.between(1, 3);
         let limit = [0, 16, self.subject.objects, self.subject.objects][place];
         call[place] = self.random.octet_between(limit, 255);
-        self.calls.push(call);
+        self.push(call);
     }
 
     /// An edge in range, with a label in use most of the time.
@@ -161,7 +242,7 @@ impl Making<'_> {
 
     /// The call that adds (0) or removes (1) an edge.
     fn edit(&mut self, kind: u8, [label, from, to]: [u8; 3]) {
-        self.calls.push([kind, label, from, to]);
+        self.push([kind, label, from, to]);
     }
 
     /// Adds an edge, asks about its ends, and mostly takes it away again.
@@ -194,14 +275,19 @@ impl Making<'_> {
         }
     }
 
-    /// A question on one end of an edge, perhaps by the other end.
-    fn question_about(&mut self, [_, from, to]: [u8; 3]) {
-        let kind = self.question_kind();
-        let method = self.random.below(self.subject.methods.into()) as u8;
+    /// Method, object and requestor: one end of an edge, perhaps by the other end.
+    fn about(&mut self, [_, from, to]: [u8; 3]) -> [u8; 3] {
+        let method = self.method();
         let user = self.user();
         let requestor = self.random.pick(&[to, user, user]);
-        let object = self.random.pick(&[from, from, to]);
-        self.calls.push([kind, method, object, requestor]);
+        [method, self.random.pick(&[from, from, to]), requestor]
+    }
+
+    /// A question on one end of an edge.
+    fn question_about(&mut self, edge: [u8; 3]) {
+        let kind = self.question_kind();
+        let [method, object, requestor] = self.about(edge);
+        self.push([kind, method, object, requestor]);
     }
 
     /// An edit of a known edge or a new one, whether it can be done or not.
@@ -213,12 +299,15 @@ impl Making<'_> {
         self.edit(kind, edge);
     }
 
-    /// Any edit, predicate or unknown kind with any numbers.
+    /// Any edit, predicate, ticket or unknown kind with any numbers.
     fn anything(&mut self) {
         let [x, y, z, above] = self.random.next().to_be_bytes()[..4] else {
             return;
         };
-        let kind = self.random.pick(&[0, 1, 4, 5, 6, above.max(6)]);
-        self.calls.push([kind, x, y, z]);
+        let first = TICKET + 1;
+        let kind = self
+            .random
+            .pick(&[0, 1, 4, 5, TICKET, first, above.max(first)]);
+        self.push([kind, x, y, z]);
     }
 }

@@ -1,12 +1,13 @@
 //! The cases of a run: which bundle and which calls belong to a number.
 
-use crate::calls::{Call, Subject};
+use crate::calls::Subject;
 use crate::damage::damage;
 use crate::frame;
 use crate::policy::{policy, Lines};
 use crate::random::Random;
 use crate::sealed;
 use crate::sizes::{Sizes, LIMITS};
+use crate::support::Call;
 
 /// How many cases a seed has.
 pub const CASES: usize = 40_000;

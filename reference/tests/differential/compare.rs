@@ -5,7 +5,9 @@ use crate::engine;
 use crate::outcome::{same_if, Checked, Outcome};
 use crate::parts;
 use crate::random::Random;
+use crate::support::principal_count;
 use crate::tally::Tally;
+use reference::CALL_OCTETS;
 
 /// Runs the same call on both, which must return the same and leave the same bytes.
 fn both(
@@ -67,7 +69,7 @@ fn replay_whole(case: &Case, random: &mut Random, tally: &mut Tally) -> Checked<
     let outcome = replay(case, calls, (length, random.octet()))?;
     if outcome.number() == 0 {
         let answers = outcome.buffer().chunks_exact(5);
-        tally.list(&case.calls, answers, case.valid.as_ref());
+        tally.list(&case.calls, answers, principal_count(&case.text));
     }
     Ok(())
 }
@@ -75,8 +77,9 @@ fn replay_whole(case: &Case, random: &mut Random, tally: &mut Tally) -> Checked<
 /// Compares a beginning of the calls, with the last one cut or no room for its answer.
 fn replay_short(case: &Case, random: &mut Random) -> Checked<()> {
     let whole = case.calls.as_flattened();
-    let calls = &whole[..random.below(whole.len().min(23) + 1)];
-    let room = random.below(5 * calls.len().div_ceil(4) + 8);
+    let most = whole.len().min(6 * CALL_OCTETS - 1);
+    let calls = &whole[..random.below(most + 1)];
+    let room = random.below(5 * calls.len().div_ceil(CALL_OCTETS) + 8);
     replay(case, calls, (room, random.octet())).map(|_| ())
 }
 

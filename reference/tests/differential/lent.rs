@@ -2,7 +2,7 @@
 
 use crate::engine::{self, Record};
 use crate::outcome::{same_if, Checked, Difference, Outcome, Step};
-use reference::Policy;
+use reference::{Policy, CALL_OCTETS};
 
 /// So many bytes before and after the engine's record must stay.
 const GUARD: usize = 32;
@@ -56,13 +56,24 @@ impl Lent {
             .map(|outcome| outcome.value)
     }
 
-    /// Answers calls into a buffer of a length and a filling.
+    /// Answers calls into a buffer of a length and a filling; where none of them is an edit or a
+    /// question, both records stay, the engine's to the last bit.
     pub fn answer(&mut self, calls: &[u8], (length, fill): (usize, u8)) -> Checked<Outcome> {
         self.steps.push(Step::Answer(calls.to_vec(), length));
+        let mut kinds = calls.chunks_exact(CALL_OCTETS).map(|call| call[0]);
+        let before = kinds.all(|kind| kind >= 4).then(|| self.records());
         let (old, new) = (&mut self.reference, &mut self.engine.record);
         let reference = Outcome::of(length, fill, |out| reference::answer(old, calls, out));
         let engine = Outcome::of(length, fill, |out| engine::answer(new, calls, out));
-        self.both("answer", reference, engine)
+        let stay = before.is_none_or(|before| before == self.records());
+        let outcome = self.both("answer", reference, engine)?;
+        self.must(stay, "answer: a record changed", &outcome, &outcome)?;
+        Ok(outcome)
+    }
+
+    /// Both records as they are now.
+    fn records(&self) -> (Policy, Record) {
+        (self.reference.clone(), self.engine.record.clone())
     }
 
     /// Writes into a buffer of a length and a filling; the engine's record stays to the last bit.

@@ -1,15 +1,17 @@
 //! Lent records on one case: lists of calls given part by part, two records side by side, written
 //! and loaded again on the way, and bundles that are refused.
 
-use crate::calls::Call;
+use crate::calls::TICKET;
 use crate::cases::{self, Case};
 use crate::engine;
 use crate::lent::Lent;
 use crate::outcome::{Checked, Outcome};
 use crate::random::Random;
-use crate::support::SMALLEST;
+use crate::support::{principal_count, Call, SMALLEST};
 use crate::tally::Tally;
 use crate::tally_lent::Event;
+use crate::tally_tickets::Setting;
+use reference::CALL_OCTETS;
 
 /// A lent record on its way through a list of calls.
 struct Walk<'a> {
@@ -19,8 +21,8 @@ struct Walk<'a> {
     calls: &'a [Call],
     /// The answers so far, five octets each.
     answers: Vec<u8>,
-    /// Whether an edit was accepted.
-    edited: bool,
+    /// Where its answers are counted, and whether an edit was accepted.
+    setting: Setting,
     /// Another record, loaded from what this one wrote, which gets the same calls.
     again: Option<Lent>,
 }
@@ -41,13 +43,32 @@ pub fn compare(case: &Case, loads: bool, random: &mut Random, tally: &mut Tally)
 /// The first calls of some, perhaps none, perhaps with a piece of the one after them; and the room
 /// for their answers, now and then too little.
 fn some_of<'a>(calls: &'a [u8], random: &mut Random) -> (&'a [u8], usize) {
-    let whole = random.pick(&[0, 4, 4, 8, 16, calls.len()]);
-    let piece = random.pick(&[0, 0, 0, 1, 2, 3]);
+    let whole = random.pick(&[0, 1, 1, 2, 4, calls.len()]) * CALL_OCTETS;
+    let any = random.between(1, CALL_OCTETS - 1);
+    let piece = random.pick(&[0, 0, 0, any, any, 4]);
     let given = &calls[..calls.len().min(whole + piece)];
-    let enough = given.len() / 4 * 5;
+    let enough = given.len() / CALL_OCTETS * 5;
     let any = random.below(enough + 1);
     let room = random.pick(&[enough, enough, enough, any]);
     (given, room + random.below(8))
+}
+
+/// The tickets that calls begin with, half the time, so that what these leave can be seen; else, or
+/// where there is none, all the calls.
+fn maybe_tickets_alone<'a>(calls: &'a [Call], random: &mut Random) -> &'a [Call] {
+    match calls.iter().position(|call| call[0] != TICKET) {
+        Some(tickets) if tickets > 0 && random.one_in(2) => &calls[..tickets],
+        _ => calls,
+    }
+}
+
+/// A lent record with so many principals, before any edit.
+fn on_lent(principal_count: usize) -> Setting {
+    Setting {
+        lent: true,
+        edited: false,
+        principal_count,
+    }
 }
 
 /// A record that is zero has no bundle: calls and writing are refused.
@@ -55,8 +76,9 @@ fn never_loaded(calls: &[Call], random: &mut Random, tally: &mut Tally) -> Check
     let mut lent = Lent::zeroed();
     let room = (5 * calls.len(), random.octet());
     let outcome = lent.answer(calls.as_flattened(), room)?;
-    for answer in outcome.buffer().chunks_exact(5) {
+    for (call, answer) in calls.iter().zip(outcome.buffer().chunks_exact(5)) {
         tally.unloadable(answer[0]);
+        tally.lent_answer(call, answer[0], on_lent(0));
     }
     let outcome = lent.write((random.below(60), random.octet()))?;
     tally.unloadable(outcome.number() as u8);
@@ -131,7 +153,7 @@ impl<'a> Walk<'a> {
             text,
             calls,
             answers: Vec::new(),
-            edited: false,
+            setting: on_lent(principal_count(text)),
             again: None,
         }
     }
@@ -164,18 +186,20 @@ impl<'a> Walk<'a> {
 
     /// Gives the next calls and takes up their answers.
     fn part(&mut self, random: &mut Random, tally: &mut Tally) -> Checked<()> {
-        let rest = &self.calls[self.place()..];
+        let rest = maybe_tickets_alone(&self.calls[self.place()..], random);
         let (given, room) = some_of(rest.as_flattened(), random);
         let outcome = self.lent.answer(given, (room, random.octet()))?;
-        let count = (given.len() / 4).min(room / 5);
+        let count = (given.len() / CALL_OCTETS).min(room / 5);
         let right = outcome.value == count as u64;
         let what = "answer: not as many as are whole and have room";
         self.lent.must(right, what, &outcome, &outcome)?;
         tally.part(given, room);
         let answers = &outcome.buffer()[..5 * count];
-        self.answer_again(&given[..4 * count], answers, random)?;
-        let mut both = rest.iter().zip(answers.chunks_exact(5));
-        self.edited |= both.any(|(call, answer)| call[0] <= 1 && answer[0] == 0);
+        self.answer_again(&given[..CALL_OCTETS * count], answers, random)?;
+        for (call, answer) in rest.iter().zip(answers.chunks_exact(5)) {
+            tally.lent_answer(call, answer[0], self.setting);
+            self.setting.edited |= call[0] <= 1 && answer[0] == 0;
+        }
         self.answers.extend_from_slice(answers);
         Ok(())
     }
@@ -208,14 +232,14 @@ impl<'a> Walk<'a> {
         let exact = (needed.value as u32) as usize;
         let outcome = self.write_into(exact, exact, random, tally)?;
         let text = outcome.buffer();
-        let right = self.edited || text == self.text;
+        let right = self.setting.edited || text == self.text;
         let expected = Outcome::of(self.text.len(), 0, |out| {
             out.copy_from_slice(self.text);
             out.len() as u64
         });
         let what = "write: not the bundle that was loaded";
         self.lent.must(right, what, &expected, &outcome)?;
-        tally.written_after(self.edited && text != self.text);
+        tally.written_after(self.setting.edited && text != self.text);
         let shorter = random.below(exact);
         let larger = exact + random.between(1, 100);
         let room = random.pick(&[exact - 1, shorter, larger]);

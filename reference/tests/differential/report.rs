@@ -2,6 +2,7 @@
 
 use crate::cases::Case;
 use crate::outcome::{Difference, Outcome, Step};
+use reference::CALL_OCTETS;
 
 /// Prints the seed, the case, what was done before and both results.
 pub fn print(seed: u64, number: usize, case: &Case, difference: &Difference) {
@@ -34,7 +35,7 @@ fn print_step(step: &Step) {
             print_text(text);
         }
         Step::Answer(calls, room) => {
-            let calls: Vec<&[u8]> = calls.chunks(4).collect();
+            let calls: Vec<&[u8]> = calls.chunks(CALL_OCTETS).collect();
             println!("\nlent record: answer into {room} bytes: {calls:?}");
         }
         Step::Write(room) => println!("\nlent record: write into {room} bytes"),

@@ -1,16 +1,19 @@
 //! What a run came across, counted on results that both implementations agree on.
 
-use crate::calls::Call;
+use crate::calls::TICKET;
 use crate::limits::reached;
 use crate::policy::Lines;
 use crate::sizes::LIMITS;
+use crate::support::Call;
 use crate::tally_lent::{Counts, Event};
+use crate::tally_tickets::{Setting, Tickets};
+use reference::CALL_OCTETS;
 
 /// Each refusal must occur at least so often in a run.
 const LEAST: u64 = 50;
 
-/// The causes of the contract's table, by number.
-const CAUSES: [&str; 19] = [
+/// The causes of the contract's table and of its requests, by number.
+const CAUSES: [&str; 22] = [
     "line empty, odd, other character, no final 0A",
     "under 3 octets, or length octet wrong",
     "line sum not zero",
@@ -30,6 +33,9 @@ const CAUSES: [&str; 19] = [
     "no set will do",
     "writer's buffer too short",
     "no bundle loads to this record",
+    "ticket: a member is no principal or isn't enabled",
+    "ticket: the set isn't consistent",
+    "ticket: guard not met",
 ];
 
 /// The counts.
@@ -39,8 +45,8 @@ pub struct Tally {
     loaded: u64,
     lists: u64,
     calls: u64,
-    /// By number, 1 to 19.
-    refusals: [u64; 20],
+    /// By number, from 1 on.
+    refusals: [u64; CAUSES.len() + 1],
     unknown_kinds: u64,
     /// By kind, 0 add and 1 remove.
     edits: [u64; 2],
@@ -53,6 +59,7 @@ pub struct Tally {
     predicates: [[u64; 2]; 2],
     limits: [u64; LIMITS.len()],
     lent: Counts,
+    tickets: Tickets,
 }
 
 impl Tally {
@@ -90,9 +97,18 @@ impl Tally {
     pub fn part(&mut self, calls: &[u8], room: usize) {
         self.lent.add(Event::Part, true);
         self.lent.add(Event::EmptyPart, calls.is_empty());
-        self.lent
-            .add(Event::PieceOfCall, !calls.len().is_multiple_of(4));
-        self.lent.add(Event::ShortRoom, room / 5 < calls.len() / 4);
+        let whole = calls.len() / CALL_OCTETS;
+        let piece = !calls.len().is_multiple_of(CALL_OCTETS);
+        self.lent.add(Event::PieceOfCall, piece);
+        self.lent.add(Event::ShortRoom, room / 5 < whole);
+        let mut kinds = calls.chunks_exact(CALL_OCTETS).map(|call| call[0]);
+        let tickets = whole.min(room / 5) > 0 && kinds.all(|kind| kind == TICKET);
+        self.lent.add(Event::TicketsAlone, tickets);
+    }
+
+    /// Counts an answer on a lent record, if it is to a ticket.
+    pub fn lent_answer(&mut self, call: &[u8], number: u8, setting: Setting) {
+        self.tickets.add(call, number, setting);
     }
 
     /// Counts a write of a lent record.
@@ -118,13 +134,19 @@ impl Tally {
         &mut self,
         calls: &[Call],
         answers: impl Iterator<Item = &'a [u8]>,
-        valid: Option<&Lines>,
+        principal_count: usize,
     ) {
-        let has_principals = valid.is_some_and(|lines| lines.iter().any(|line| line[0] == 7));
         self.lists += u64::from(!calls.is_empty());
+        let mut setting = Setting {
+            lent: false,
+            edited: false,
+            principal_count,
+        };
         for (call, answer) in calls.iter().zip(answers) {
             self.calls += 1;
-            self.answer(call[0], answer, has_principals);
+            self.answer(call[0], answer, principal_count > 0);
+            self.tickets.add(call, answer[0], setting);
+            setting.edited |= call[0] <= 1 && answer[0] == 0;
         }
     }
 
@@ -137,7 +159,7 @@ impl Tally {
             4 | 5 if granted => {
                 self.predicates[usize::from(kind - 4)][usize::from(answer[3])] += 1;
             }
-            0..=5 => self.refused(answer[0].into()),
+            0..=TICKET => self.refused(answer[0].into()),
             _ => self.unknown_kinds += 1,
         }
     }
@@ -167,6 +189,7 @@ impl Tally {
             println!("{:>9}  {number:>2}  {cause}", self.refusals[number]);
         }
         self.print_answers();
+        self.tickets.print();
         self.lent.print();
         println!("\nvalid bundles by the limits they reach");
         for (name, count) in LIMITS.iter().zip(self.limits) {
@@ -196,12 +219,13 @@ impl Tally {
 
     /// What the run ought to have come across more often, or at all.
     pub fn gaps(&self) -> Vec<String> {
-        let rare = (1..=19).filter(|&number| self.refusals[number] < LEAST);
+        let rare = (1..=CAUSES.len()).filter(|&number| self.refusals[number] < LEAST);
         let mut gaps: Vec<String> = rare
             .map(|number| format!("number {number} occurred fewer than {LEAST} times"))
             .collect();
         let missed = LIMITS.iter().zip(self.limits).filter(|limit| limit.1 == 0);
         gaps.extend(missed.map(|(name, _)| format!("no bundle reached: {name}")));
+        gaps.extend(self.tickets.gaps(LEAST));
         gaps.extend(self.lent.gaps());
         gaps
     }

@@ -10,6 +10,7 @@ pub enum Event {
     EmptyPart,
     PieceOfCall,
     ShortRoom,
+    TicketsAlone,
     AsByReplay,
     SideBySide,
     Write,
@@ -21,11 +22,12 @@ pub enum Event {
 }
 
 /// Their names, in that order.
-const NAMES: [&str; 12] = [
+const NAMES: [&str; 13] = [
     "parts of lists, of which",
     "were empty",
     "ended with a piece of a call",
     "had too little room for the answers",
+    "were tickets alone, and left every octet of the record",
     "lists answered in parts as by one replay",
     "cases with two records side by side",
     "writes, of which",

@@ -1,7 +1,16 @@
 //! A line sealer, and the bundles the tests start from.
 #![allow(dead_code)]
 
-use reference::Policy;
+use reference::{Policy, CALL_OCTETS};
+
+/// A call as octets.
+pub type Call = [u8; CALL_OCTETS];
+
+/// The call of a kind and three numbers, with a set number, the high octet first.
+pub fn call([kind, x, y, z]: [u8; 4], set: u32) -> Call {
+    let [a, b, c, d] = set.to_be_bytes();
+    [kind, x, y, z, a, b, c, d]
+}
 
 /// The smallest bundle, as the contract prints it.
 pub const SMALLEST: &[u8] = b"02010101FB\n06FF000100000100F9\n";
@@ -63,6 +72,12 @@ pub fn crown_lines() -> Vec<Vec<u8>> {
 /// The crown's bundle.
 pub fn crown() -> Vec<u8> {
     bundle(&crown_lines())
+}
+
+/// How many principals a bundle that loads has: its lines of kind 07.
+pub fn principal_count(text: &[u8]) -> usize {
+    let kinds = text.split(|&byte| byte == b'\n').map(|line| line.get(2..4));
+    kinds.filter(|kind| *kind == Some(b"07")).count()
 }
 
 /// A head of 32 objects and so many edges, rising.
