@@ -65,7 +65,7 @@ static unsigned adds_of(struct slice calls)
     return adds;
 }
 
-/* Keeps the calls on an accepted bundle without the questions past the budget; returns their length. */
+/* Keeps the calls on an accepted bundle without those past the budget; returns their length. */
 size_t affordable(const struct bundle *bundle, struct slice calls, uint64_t budget, uint8_t *kept)
 {
     uint64_t evaluation = evaluation_cost(bundle, adds_of(calls));

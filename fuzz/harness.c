@@ -218,7 +218,7 @@ static void check_ticket(const uint8_t *question, uint32_t set, unsigned number)
         must(set == granted ? number == 0 : number != 0 || !set_less(set, granted), "replay: ticket and grant don't agree");
 }
 
-/* Puts tickets behind questions, for the set of the answer or one near it; which calls of the longer list are these. */
+/* The calls with tickets put behind questions, for the set of the answer or one near it; added tells which calls are these. */
 static struct slice with_tickets(const uint8_t *answers, bool *added)
 {
     static uint8_t list[2 * MOST_CALLS];
@@ -279,7 +279,7 @@ static void check_answers(void)
     check_lent(answers);
 }
 
-/* Leaves out the questions that would take long, but for one input in 64. */
+/* Leaves out the calls that would take long, but for one input in 64. */
 static void keep_affordable(struct slice all)
 {
     static uint8_t kept[MOST_CALLS];
