@@ -76,7 +76,7 @@ enum access_refusal {
     ACCESS_NOT_LOADABLE = 19,
 
     /* tickets */
-    ACCESS_MEMBER_NOT_ENABLED = 20, /* or the member is no principal */
+    ACCESS_NOT_ENABLED = 20, /* a member; or it is no principal */
     ACCESS_NOT_CONSISTENT = 21,
     ACCESS_GUARD_NOT_MET = 22
 };
@@ -125,7 +125,7 @@ static inline const char *access_number_text(unsigned number)
         return "buffer too short";
     case ACCESS_NOT_LOADABLE:
         return "no bundle loads to this record";
-    case ACCESS_MEMBER_NOT_ENABLED:
+    case ACCESS_NOT_ENABLED:
         return "member is no principal or is not enabled";
     case ACCESS_NOT_CONSISTENT:
         return "set is not consistent";

@@ -111,10 +111,10 @@ static void tickets(access_record record)
     EXPECT(access_ticket(&record, 1, 0, 1, 1) == ACCESS_ACCEPTED);
     EXPECT(access_ticket(&record, 1, 0, 1, 5) == ACCESS_ACCEPTED);
     EXPECT(access_ticket(&record, 2, 0, 2, 0) == ACCESS_ACCEPTED);
-    EXPECT(access_ticket(&record, 0, 0, 2, 6) == ACCESS_MEMBER_NOT_ENABLED);
-    EXPECT(access_ticket(&record, 0, 0, 1, 6 + 8) == ACCESS_MEMBER_NOT_ENABLED);
-    EXPECT(access_ticket(&record, 0, 0, 1, 0x80000006u) == ACCESS_MEMBER_NOT_ENABLED);
-    EXPECT(access_ticket(&record, 0, 0, 1, 0xFFFFFFFFu) == ACCESS_MEMBER_NOT_ENABLED);
+    EXPECT(access_ticket(&record, 0, 0, 2, 6) == ACCESS_NOT_ENABLED);
+    EXPECT(access_ticket(&record, 0, 0, 1, 6 + 8) == ACCESS_NOT_ENABLED);
+    EXPECT(access_ticket(&record, 0, 0, 1, 0x80000006u) == ACCESS_NOT_ENABLED);
+    EXPECT(access_ticket(&record, 0, 0, 1, 0xFFFFFFFFu) == ACCESS_NOT_ENABLED);
     EXPECT(access_ticket(&record, 0, 0, 1, 3) == ACCESS_NOT_CONSISTENT);
     EXPECT(access_ticket(&record, 0, 0, 2, 2) == ACCESS_NOT_CONSISTENT);
     EXPECT(access_ticket(&record, 0, 0, 1, 4) == ACCESS_GUARD_NOT_MET);
@@ -123,7 +123,7 @@ static void tickets(access_record record)
     EXPECT(access_ticket(&record, 0, 0, 0, 8) == ACCESS_NOT_USER);
     EXPECT(same(&record, &before));
     EXPECT(access_answer(&record, list, sizeof list, answers, sizeof answers) == 2 && same(&record, &before));
-    EXPECT(memcmp(answers, (const uint8_t[]){0, 0, 0, 0, 0, ACCESS_MEMBER_NOT_ENABLED, 0, 0, 0, 0}, sizeof answers) == 0);
+    EXPECT(memcmp(answers, (const uint8_t[]){0, 0, 0, 0, 0, ACCESS_NOT_ENABLED, 0, 0, 0, 0}, sizeof answers) == 0);
     EXPECT(access_answer(&record, lazy, sizeof lazy, answers, 5) == 1 && memcmp(answers, granted, 5) == 0);
 }
 

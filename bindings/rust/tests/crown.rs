@@ -53,7 +53,7 @@ fn tickets_for_method_0() {
     let guard = Err(Refused::GuardNotMet);
     assert_eq!(crown().ticket(ticket(0, ANA, &[2])), guard);
     assert_eq!(crown().ticket(ticket(0, BEN, &[1])), inconsistent);
-    let not_enabled = Err(Refused::MemberNotEnabled);
+    let not_enabled = Err(Refused::NotEnabled);
     assert_eq!(crown().ticket(ticket(0, BEN, &[1, 2])), not_enabled);
 }
 

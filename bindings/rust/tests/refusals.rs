@@ -156,7 +156,7 @@ fn tickets_are_refused_in_order() {
     assert_eq!(ticket_refused(4, CROWN, &[0, 3]), Refused::NoMethod);
     assert_eq!(crown().ticket(no_object), Err(Refused::NoObject));
     assert_eq!(ticket_refused(0, CROWN, &[0, 3]), Refused::NotUser);
-    assert_eq!(ticket_refused(0, BEN, &[0, 1]), Refused::MemberNotEnabled);
+    assert_eq!(ticket_refused(0, BEN, &[0, 1]), Refused::NotEnabled);
     assert_eq!(ticket_refused(1, BEN, &[1]), Refused::NotConsistent);
     assert_eq!(ticket_refused(1, ANA, &[1, 2]), Refused::GuardNotMet);
 }
@@ -164,7 +164,7 @@ fn tickets_are_refused_in_order() {
 #[test]
 fn members_that_are_no_principals_are_refused() {
     for member in 3..32 {
-        let refused = Err(Refused::MemberNotEnabled);
+        let refused = Err(Refused::NotEnabled);
         assert_eq!(crown().ticket(ticket(0, ANA, &[1, 2, member])), refused);
         assert_eq!(crown().ticket(ticket(2, ANA, &[member])), refused);
     }
@@ -172,7 +172,7 @@ fn members_that_are_no_principals_are_refused() {
         question: question(0, ANA),
         set: Set::of_number(u32::MAX),
     };
-    assert_eq!(crown().ticket(all), Err(Refused::MemberNotEnabled));
+    assert_eq!(crown().ticket(all), Err(Refused::NotEnabled));
     assert_eq!(Set::of_members([1, 32]), None);
     assert_eq!(
         Set::of_members([31, 0, 31]),
