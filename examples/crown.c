@@ -1,5 +1,5 @@
-/* Asks the crown's questions (document 01, "The crown table") of a record that this program owns, then edits the record, writes it
- * and loads what was written. `examples/run` builds and runs it. */
+/* Asks the crown's questions (document 01, "The crown table") of a record that this program owns, edits the record, writes it and
+ * loads what was written, and then checks tickets on the crown. `examples/run` builds and runs it. */
 #include <stdio.h>
 #include <string.h>
 
@@ -56,6 +56,14 @@ static void edited(const char *what, unsigned number)
     printf("%-34s %s\n", what, access_number_text(number));
 }
 
+static void proposed(const char *what, unsigned number)
+{
+    if (number == ACCESS_ACCEPTED)
+        printf("%-34s accepted\n", what);
+    else
+        printf("%-34s refused (%u): %s\n", what, number, access_number_text(number));
+}
+
 /* Prints the bundle's lines of one kind. */
 static void show_lines(const char *kind)
 {
@@ -64,6 +72,24 @@ static void show_lines(const char *kind)
     for (line = bundle; *line != 0; line = strchr(line, '\n') + 1)
         if (strncmp(line + 2, kind, 2) == 0)
             printf("  %.*s\n", (int)strcspn(line, "\n"), line);
+}
+
+/* The number of the set that has this one member; that of a larger set is the sum over its members. */
+static uint32_t alone(unsigned principal)
+{
+    return (uint32_t)1 << principal;
+}
+
+/* Grants that a design station proposes. Principal 1 needs 2 and excludes 0; for Ben principal 1 alone is enabled. */
+static void check_tickets(void)
+{
+    printf("\nTickets for method 0:\n");
+    proposed("Ana, {1, 2}", access_ticket(fresh(), 0, CROWN, ANA, alone(1) + alone(2)));
+    proposed("Ana, {1}", access_ticket(fresh(), 0, CROWN, ANA, alone(1)));
+    proposed("Ana, {0, 1}", access_ticket(fresh(), 0, CROWN, ANA, alone(0) + alone(1)));
+    proposed("Ana, {2}", access_ticket(fresh(), 0, CROWN, ANA, alone(2)));
+    proposed("Ben, {1}", access_ticket(fresh(), 0, CROWN, BEN, alone(1)));
+    proposed("Ben, {1, 2}", access_ticket(fresh(), 0, CROWN, BEN, alone(1) + alone(2)));
 }
 
 int main(void)
@@ -102,5 +128,6 @@ int main(void)
     decided("loaded again: Ana, method 0, lazy", access_lazy(&record, 0, CROWN, ANA));
     edited("add edge (1, 0, 1)", access_add(&record, CHECKED_BY, CROWN, ANA));
     decided("Ana, method 0, lazy", access_lazy(&record, 0, CROWN, ANA));
+    check_tickets();
     return 0;
 }

@@ -5,9 +5,9 @@
 /* Splits an input into its calls and the text of its bundle. */
 struct input input_split(const uint8_t *data, size_t size)
 {
-    size_t calls = size ? data[0] : 0;
-    const uint8_t *rest = size ? data + 1 : data;
-    size_t left = size ? size - 1 : 0;
+    size_t calls = size < COUNT ? 0 : ((size_t)data[0] << 8 | data[1]) % (MOST_CALLS + 1);
+    const uint8_t *rest = size < COUNT ? data : data + COUNT;
+    size_t left = size < COUNT ? 0 : size - COUNT;
 
     if (calls > left)
         calls = left;
@@ -68,12 +68,12 @@ static size_t line_write(const struct line *line, uint8_t *text, size_t room)
 /* Writes an input and returns its size; lines without room are left out. */
 size_t input_join(uint8_t *data, size_t room, struct slice calls, const struct bundle *bundle)
 {
-    size_t size = 1 + calls.length, i;
+    size_t size = COUNT + calls.length, i;
 
     if (room < size)
         return 0;
-    data[0] = (uint8_t)calls.length;
-    memcpy(data + 1, calls.start, calls.length);
+    data[0] = (uint8_t)(calls.length >> 8), data[1] = (uint8_t)calls.length;
+    memcpy(data + COUNT, calls.start, calls.length);
     for (i = 0; i < bundle->count; i++)
         size += line_write(&bundle->lines[i], data + size, room - size);
     return size;

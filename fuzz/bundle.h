@@ -6,8 +6,13 @@
 #include <stddef.h>
 #include <stdint.h>
 
+#include "../include/case_access.h"
+
 enum { HEAD = 1, USER, EDGE, FORMULA, DEMARCATION, HIERARCHY, PRINCIPAL, EXCLUSION, PREREQUISITE, METHOD, END = 255 };
-enum { MOST_LINES = 2000, MOST_OCTETS = 24, MOST_CALLS = 255, MOST_TEXT = 24576 };
+enum { MOST_LINES = 2000, MOST_OCTETS = 24, MOST_TEXT = 24576 };
+
+/* Octets of a call, of its answer, and of all calls: 63 and a piece of one. */
+enum { CALL = ACCESS_CALL_OCTETS, ANSWER = ACCESS_ANSWER_OCTETS, MOST_CALLS = 511 };
 
 /* Octets of a line: length, kind, body, check. */
 struct line {
@@ -26,10 +31,12 @@ struct slice {
     size_t length;
 };
 
-/* An input: one octet n, n octets of calls, and the bundle's text. */
+/* An input: a number n in COUNT octets, the high one first, taken modulo 512; n octets of calls; the bundle's text. */
 struct input {
     struct slice calls, text;
 };
+
+enum { COUNT = 2 };
 
 struct input input_split(const uint8_t *data, size_t size);
 size_t input_join(uint8_t *data, size_t room, struct slice calls, const struct bundle *bundle);

@@ -60,26 +60,27 @@ static unsigned adds_of(struct slice calls)
     unsigned adds = 0;
     size_t i;
 
-    for (i = 0; i + 4 <= calls.length; i += 4)
-        adds += calls.start[i] == 0;
+    for (i = 0; i + CALL <= calls.length; i += CALL)
+        adds += calls.start[i] == ACCESS_CALL_ADD;
     return adds;
 }
 
-/* Keeps the calls on an accepted bundle without the questions past the budget; returns their length. */
+/* Keeps the calls on an accepted bundle without those past the budget; returns their length. */
 size_t affordable(const struct bundle *bundle, struct slice calls, uint64_t budget, uint8_t *kept)
 {
     uint64_t evaluation = evaluation_cost(bundle, adds_of(calls));
     uint64_t search = (uint64_t)4 << count_of(bundle, PRINCIPAL);
     size_t i, length = 0;
 
-    for (i = 0; i + 4 <= calls.length; i += 4) {
+    for (i = 0; i + CALL <= calls.length; i += CALL) {
         unsigned kind = calls.start[i];
-        uint64_t cost = kind < 2 || kind > 5 ? 0 : capped(evaluation + (kind < 4 ? search : 0));
+        bool evaluates = kind >= ACCESS_CALL_EAGER && kind <= ACCESS_CALL_TICKET, searches = evaluates && kind < ACCESS_CALL_LIBERAL;
+        uint64_t cost = evaluates ? capped(evaluation + (searches ? search : 0)) : 0;
         if (cost > budget)
             continue;
         budget -= cost;
-        memcpy(kept + length, calls.start + i, 4);
-        length += 4;
+        memcpy(kept + length, calls.start + i, CALL);
+        length += CALL;
     }
     memcpy(kept + length, calls.start + i, calls.length - i);
     return length + calls.length - i;

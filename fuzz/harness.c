@@ -8,6 +8,7 @@
 #include "coverage.h"
 #include "lent.h"
 #include "random.h"
+#include "sets.h"
 #include "tally.h"
 
 uint64_t reference_rewrite(const uint8_t *bundle, size_t bundle_length, uint8_t *out, size_t out_length);
@@ -127,7 +128,7 @@ static void check_altered(void)
 /* A refused bundle has no answers: its number, value 0, and the buffer stays. */
 static void check_unanswered(uint64_t number)
 {
-    size_t i, rooms[] = {5 * (calls.length / 4), 0, below(400)};
+    size_t i, rooms[] = {ANSWER * (calls.length / CALL), 0, below(400)};
 
     for (i = 0; i < sizeof rooms / sizeof *rooms; i++) {
         must(replay(calls, rooms[i]) == number << 32, "replay: not the loader's number, or answers");
@@ -138,18 +139,24 @@ static void check_unanswered(uint64_t number)
 /* Whether a number is one that this kind of call may be answered with. */
 static bool number_fits(unsigned kind, unsigned number)
 {
-    static const uint8_t fits[6][5] = {{0, 10, 11, 13},     {0, 10, 12},     {0, 14, 15, 16, 17},
-                                       {0, 14, 15, 16, 17}, {0, 14, 15, 16}, {0, 14, 15, 16}};
+    static const uint8_t fits[7][7] = {{0, 10, 11, 13}, {0, 10, 12},     {0, 14, 15, 16, 17},        {0, 14, 15, 16, 17},
+                                       {0, 14, 15, 16}, {0, 14, 15, 16}, {0, 14, 15, 16, 20, 21, 22}};
 
-    return kind > 5 ? number == 4 : memchr(fits[kind], (int)number, 5) != NULL;
+    return kind > ACCESS_CALL_TICKET ? number == 4 : memchr(fits[kind], (int)number, 7) != NULL;
+}
+
+/* Whether a kind of call is a question. */
+static bool is_question(unsigned kind)
+{
+    return kind == ACCESS_CALL_EAGER || kind == ACCESS_CALL_LAZY;
 }
 
 /* One answer: number, set and evaluations are of its kind. */
 static void check_answer(unsigned kind, const uint8_t *answer)
 {
-    uint32_t set = (uint32_t)answer[1] << 16 | (uint32_t)answer[2] << 8 | answer[3];
+    uint32_t set = set_of_answer(answer);
     size_t principals = count_of(&lines, PRINCIPAL);
-    bool question = kind == 2 || kind == 3, asks = kind >= 2 && kind <= 5;
+    bool question = is_question(kind), asks = question || kind == ACCESS_CALL_LIBERAL || kind == ACCESS_CALL_STRICT;
 
     must(number_fits(kind, answer[0]), "replay: number not of this kind of call");
     must(set == 0 || (asks && answer[0] == 0), "replay: a set without a grant");
@@ -157,63 +164,122 @@ static void check_answer(unsigned kind, const uint8_t *answer)
     must(answer[4] == 0 || (question && (answer[0] == 0 || answer[0] == 17)), "replay: evaluations without any");
     must(answer[4] <= principals, "replay: more evaluations than principals");
     tally_answer(kind, answer);
+    if (question && answer[0] == 0)
+        set_note(set);
 }
 
 /* As many answers as whole calls and room; bytes past them stay. */
 static void check_count(uint64_t value, struct slice list, size_t room)
 {
-    size_t whole = list.length / 4, fit = room / 5, count = whole < fit ? whole : fit;
+    size_t whole = list.length / CALL, fit = room / ANSWER, count = whole < fit ? whole : fit;
 
     must(value == count, "replay: another number of answers");
-    must(area_stays(&engine_area, 5 * count), "replay: bytes past the answers changed");
+    must(area_stays(&engine_area, ANSWER * count), "replay: bytes past the answers changed");
 }
 
 /* A beginning of the calls, in any room, is answered as it is in the whole list. */
 static void check_beginning(const uint8_t *answers)
 {
     struct slice list = {calls.start, below((unsigned)calls.length + 1)};
-    size_t room = below((unsigned)(5 * (calls.length / 4) + 12));
+    size_t room = below((unsigned)(ANSWER * (calls.length / CALL) + 12));
     uint64_t value = replay(list, room);
 
     check_count(value, list, room);
-    must(memcmp(engine_area.lent, answers, 5 * (size_t)value) == 0, "replay: a beginning is answered otherwise");
+    must(memcmp(engine_area.lent, answers, ANSWER * (size_t)value) == 0, "replay: a beginning is answered otherwise");
 }
 
 /* The other form of a question at the same point has the same set, and lazy no more evaluations. */
 static void check_forms(const uint8_t *answers)
 {
-    size_t number = below((unsigned)(calls.length / 4));
-    uint8_t *kind = calls_area.lent + 4 * number;
-    const uint8_t *one = answers + 5 * number, *other;
+    size_t number = below((unsigned)(calls.length / CALL)), room = ANSWER * (number + 1);
+    uint8_t *kind = calls_area.lent + CALL * number;
+    const uint8_t *one = answers + ANSWER * number, *other;
 
-    if (calls.length < 4 || (*kind != 2 && *kind != 3))
+    if (calls.length < CALL || !is_question(*kind))
         return;
     *kind ^= 1;
-    must(replay_alone((struct slice){calls.start, 4 * number + 4}, 5 * number + 5) == number + 1, "replay: another number of answers");
-    other = engine_area.lent + 5 * number;
+    must(replay_alone((struct slice){calls.start, CALL * (number + 1)}, room) == number + 1, "replay: another number of answers");
+    other = engine_area.lent + ANSWER * number;
     must(memcmp(one, other, 4) == 0, "replay: eager and lazy give different sets");
-    must(*kind == 2 ? one[4] <= other[4] : one[4] >= other[4], "replay: lazy evaluates more than eager");
+    must(*kind == ACCESS_CALL_EAGER ? one[4] <= other[4] : one[4] >= other[4], "replay: lazy evaluates more than eager");
     *kind ^= 1;
 }
 
-/* Answers the calls on an accepted bundle: whole, again, in part, and with the other form. */
+/* The number of a ticket beside the answer to its question at the same point. What was granted is accepted, and nothing less than it. */
+static void check_ticket(const uint8_t *question, uint32_t set, unsigned number)
+{
+    uint32_t granted = set_of_answer(question);
+
+    if (question[0] == 17)
+        must(number >= 20 && number <= 22, "replay: a ticket accepted where no set will do");
+    else if (question[0] != 0)
+        must(number == question[0], "replay: ticket and question refused with different numbers");
+    else
+        must(set == granted ? number == 0 : number != 0 || !set_less(set, granted), "replay: ticket and grant don't agree");
+}
+
+/* The calls with tickets put behind questions, for the set of the answer or one near it; added tells which calls are these. */
+static struct slice with_tickets(const uint8_t *answers, bool *added)
+{
+    static uint8_t list[2 * MOST_CALLS];
+    size_t i, length = 0, count = calls.length / CALL, rest = calls.length % CALL;
+
+    for (i = 0; i < count; i++) {
+        const uint8_t *call = calls.start + CALL * i;
+        memcpy(list + length, call, CALL), added[length / CALL] = false, length += CALL;
+        if (!is_question(call[0]) || one_in(3))
+            continue;
+        memcpy(list + length, call, CALL), added[length / CALL] = true;
+        list[length] = ACCESS_CALL_TICKET;
+        set_put(list + length, set_near(set_of_answer(answers + ANSWER * i), count_of(&lines, PRINCIPAL)));
+        length += CALL;
+    }
+    memcpy(list + length, calls.start + CALL * count, rest);
+    return (struct slice){list, length + rest};
+}
+
+/* From here on the calls are those with tickets put among them: the others are answered as before, since tickets leave the record. */
+static void check_tickets(uint8_t *answers)
+{
+    static uint8_t before[ANSWER * MOST_CALLS];
+    static bool added[MOST_CALLS];
+    const uint8_t *old = before;
+    size_t i, room;
+
+    memcpy(before, answers, ANSWER * (calls.length / CALL));
+    calls = placed(&calls_area, with_tickets(answers, added));
+    room = ANSWER * (calls.length / CALL);
+    check_count(replay(calls, room), calls, room);
+    memcpy(answers, engine_area.lent, room);
+    for (i = 0; i < calls.length / CALL; i++)
+        if (added[i]) {
+            check_ticket(old - ANSWER, set_of_call(calls.start + CALL * i), answers[ANSWER * i]);
+        } else {
+            must(memcmp(answers + ANSWER * i, old, ANSWER) == 0, "replay: a ticket changed what follows it");
+            old += ANSWER;
+        }
+}
+
+/* Answers the calls on an accepted bundle: whole, with tickets among them, again, in part, and with the other form. */
 static void check_answers(void)
 {
-    static uint8_t answers[5 * MOST_CALLS];
-    size_t i, count = calls.length / 4, room = 5 * count + below(12);
+    static uint8_t answers[ANSWER * MOST_CALLS];
+    size_t i, count = calls.length / CALL, room = ANSWER * count + below(12);
 
     check_count(replay(calls, room), calls, room);
-    memcpy(answers, engine_area.lent, 5 * count);
+    memcpy(answers, engine_area.lent, ANSWER * count);
+    check_tickets(answers);
+    count = calls.length / CALL, room = ANSWER * count;
     for (i = 0; i < count; i++)
-        check_answer(calls.start[4 * i], answers + 5 * i);
-    check_count(replay_alone(calls, 5 * count), calls, 5 * count);
-    must(memcmp(engine_area.lent, answers, 5 * count) == 0, "replay: two runs differ");
+        check_answer(calls.start[CALL * i], answers + ANSWER * i);
+    check_count(replay_alone(calls, room), calls, room);
+    must(memcmp(engine_area.lent, answers, room) == 0, "replay: two runs differ");
     check_beginning(answers);
     check_forms(answers);
     check_lent(answers);
 }
 
-/* Leaves out the questions that would take long, but for one input in 64. */
+/* Leaves out the calls that would take long, but for one input in 64. */
 static void keep_affordable(struct slice all)
 {
     static uint8_t kept[MOST_CALLS];
@@ -221,7 +287,7 @@ static void keep_affordable(struct slice all)
 
     bundle_read(&lines, text);
     calls = placed(&calls_area, (struct slice){kept, affordable(&lines, all, budget, kept)});
-    tally_dropped((all.length - calls.length) / 4);
+    tally_dropped((all.length - calls.length) / CALL);
 }
 
 /* Choices within a run depend on the input alone. */

@@ -30,8 +30,8 @@ struct walk {
     bool edited;
 };
 
-/* The octets of a record that are bools; nothing of it is behind them. */
-enum { FIRST_BOOL = 4970, BOOLS = 128, IN_USE = FIRST_BOOL + BOOLS };
+/* Where a record's memo is: a pair, then octets that are bools; nothing of the record is behind them. */
+enum { MEMO = 4968, FIRST_BOOL = MEMO + 2, BOOLS = 128, IN_USE = FIRST_BOOL + BOOLS };
 
 static const char smallest[] = "02010101FB\n06FF000100000100F9\n";
 
@@ -94,10 +94,20 @@ static void load_accepted(struct lent *lent, struct slice bundle)
     must(load(lent, bundle) == 0, "load: refused what was accepted, or what was written");
 }
 
+/* Whether none of so many calls is an edit or a question: these leave the record. */
+static bool leave_record(struct slice list, size_t count)
+{
+    while (count--)
+        if (list.start[CALL * count] < ACCESS_CALL_LIBERAL)
+            return false;
+    return true;
+}
+
 /* Answers calls on a record by both into so much room; bytes past the answers stay. */
 static size_t answer(struct lent *lent, struct slice list, size_t room)
 {
-    size_t whole = list.length / 4, fit = room / 5, count = whole < fit ? whole : fit;
+    size_t whole = list.length / CALL, fit = room / ANSWER, count = whole < fit ? whole : fit;
+    access_record before = *lent->engine;
     uint64_t value;
 
     lend(room);
@@ -105,7 +115,9 @@ static size_t answer(struct lent *lent, struct slice list, size_t room)
     must_agree(value, reference_answer(lent->reference, list.start, list.length, reference_area.lent, room));
     must_stay_around(lent);
     must(value == count, "answer: another number of answers");
-    must(area_stays(&engine_area, 5 * count), "answer: bytes past the answers changed");
+    must(area_stays(&engine_area, ANSWER * count), "answer: bytes past the answers changed");
+    if (leave_record(list, count))
+        must(memcmp(&before, lent->engine, IN_USE) == 0, "answer: no edit and no question, and the record changed");
     return count;
 }
 
@@ -142,10 +154,10 @@ static struct slice written(const struct lent *lent, uint8_t *bytes)
 /* Answers a list on a bundle by one replay of the engine; the answers. */
 static const uint8_t *replayed(struct slice bundle, struct slice list, uint8_t *answers)
 {
-    size_t room = 5 * (list.length / 4);
+    size_t room = ANSWER * (list.length / CALL);
 
     lend(room);
-    must(access_replay(bundle.start, bundle.length, list.start, list.length, engine_area.lent, room) == list.length / 4,
+    must(access_replay(bundle.start, bundle.length, list.start, list.length, engine_area.lent, room) == list.length / CALL,
          "replay: another number of answers");
     memcpy(answers, engine_area.lent, room);
     return answers;
@@ -156,8 +168,10 @@ static void check_unloadable(const uint8_t *answers, size_t count, bool stays)
 {
     size_t i;
 
-    for (i = 0; i < count; i++)
-        must(answers[5 * i] == (calls.start[4 * i] > 5 ? 4 : 19), "answer: not 19 on a record that no bundle loads to");
+    for (i = 0; i < count; i++) {
+        bool known = calls.start[CALL * i] <= ACCESS_CALL_TICKET;
+        must(answers[ANSWER * i] == (known ? 19 : 4), "answer: not 19 on a record that no bundle loads to");
+    }
     must(stays, "answer: 19 changed the record");
 }
 
@@ -168,7 +182,7 @@ static void check_zeroed(void)
     size_t count;
 
     zero(&first);
-    count = answer(&first, calls, 5 * (calls.length / 4));
+    count = answer(&first, calls, ANSWER * (calls.length / CALL));
     check_unloadable(engine_area.lent, count, memcmp(first.engine, &zeros, IN_USE) == 0);
     must(write_into(&first, below(100)) == (uint64_t)19 << 32, "write: not 19 on a record that was never loaded");
 }
@@ -176,10 +190,10 @@ static void check_zeroed(void)
 /* The next part of a list: some calls, perhaps a piece of the one after them, and room that may be too little. */
 static struct slice part_of(struct slice list, size_t *room)
 {
-    size_t length = one_in(4) ? list.length : 4 * (size_t)below(4) + below(4);
+    size_t length = one_in(4) ? list.length : CALL * (size_t)below(4) + below(CALL);
     struct slice part = {list.start, length < list.length ? length : list.length};
 
-    *room = 5 * (part.length / 4) + below(8);
+    *room = ANSWER * (part.length / CALL) + below(8);
     if (one_in(4))
         *room = below((unsigned)*room + 1);
     return part;
@@ -188,10 +202,10 @@ static struct slice part_of(struct slice list, size_t *room)
 /* The same calls on the record that was loaded from what was written: number and set are the same, evaluations may not be. */
 static void check_again(struct slice list, const uint8_t *answers)
 {
-    size_t i, count = answer(&again, list, 5 * (list.length / 4));
+    size_t i, count = answer(&again, list, ANSWER * (list.length / CALL));
 
-    for (i = 0; i < count; i++)
-        must(memcmp(engine_area.lent + 5 * i, answers + 5 * i, 4) == 0, "answer: writing and loading changed number or set");
+    for (i = 0; i < ANSWER * count; i += ANSWER)
+        must(memcmp(engine_area.lent + i, answers + i, 4) == 0, "answer: writing and loading changed number or set");
 }
 
 /* Writes the record, and loads what was written into another one, which writes the same and follows from then on. */
@@ -216,13 +230,13 @@ static void check_part(struct walk *walk)
     struct slice part = part_of(walk->list, &room);
 
     count = answer(walk->lent, part, room);
-    must(memcmp(engine_area.lent, walk->answers, 5 * count) == 0, "answer: in parts otherwise than by one replay");
+    must(memcmp(engine_area.lent, walk->answers, ANSWER * count) == 0, "answer: in parts otherwise than by one replay");
     tally_lent_part();
     if (followed == walk)
-        check_again((struct slice){part.start, 4 * count}, walk->answers);
+        check_again((struct slice){part.start, CALL * count}, walk->answers);
     for (i = 0; i < count; i++)
-        walk->edited |= part.start[4 * i] < 2 && walk->answers[5 * i] == 0;
-    walk->list.start += 4 * count, walk->list.length -= 4 * count, walk->answers += 5 * count;
+        walk->edited |= part.start[CALL * i] < ACCESS_CALL_EAGER && walk->answers[ANSWER * i] == 0;
+    walk->list.start += CALL * count, walk->list.length -= CALL * count, walk->answers += ANSWER * count;
     if (one_in(6))
         check_written(walk);
 }
@@ -233,32 +247,32 @@ static void check_parts(struct lent *lent, struct slice list, const uint8_t *ans
     struct walk walk = {lent, list, answers, bundle, false};
 
     followed = NULL;
-    while (walk.list.length >= 4)
+    while (walk.list.length >= CALL)
         check_part(&walk);
 }
 
 /* Two records in turns, the second on a list that begins elsewhere; loading leaves nothing of what they held. */
 static void check_turns(const uint8_t *answers)
 {
-    static uint8_t bytes[4 * 8], theirs[5 * 8];
-    size_t count = calls.length / 4, from = 4 * (size_t)below((unsigned)count), i;
-    struct slice list = {bytes, 4 * (count < 8 ? count : 8)};
+    static uint8_t bytes[CALL * 8], theirs[ANSWER * 8];
+    size_t count = calls.length / CALL, from = CALL * (size_t)below((unsigned)count), i;
+    struct slice list = {bytes, CALL * (count < 8 ? count : 8)};
     struct walk walks[] = {{&first, calls, answers, text, false}, {&second, list, theirs, text, false}};
 
     for (i = 0; i < list.length; i++)
-        bytes[i] = calls.start[(from + i) % (4 * count)];
+        bytes[i] = calls.start[(from + i) % (CALL * count)];
     replayed(text, list, theirs);
     load_accepted(&first, text);
     load_accepted(&second, text);
     followed = NULL;
-    while (walks[0].list.length >= 4 || walks[1].list.length >= 4)
-        check_part(&walks[walks[0].list.length < 4 || (walks[1].list.length >= 4 && one_in(2))]);
+    while (walks[0].list.length >= CALL || walks[1].list.length >= CALL)
+        check_part(&walks[walks[0].list.length < CALL || (walks[1].list.length >= CALL && one_in(2))]);
 }
 
 /* Loads a refused bundle into a record that held rules: from then on it is the smallest bundle's. */
 static void check_blank(struct lent *lent, struct slice bundle, uint64_t refusal, struct slice list)
 {
-    static uint8_t bytes[AREA], answers[5 * MOST_CALLS];
+    static uint8_t bytes[AREA], answers[ANSWER * MOST_CALLS];
     struct slice blank = constant(smallest);
     uint64_t value = load(lent, bundle);
 
@@ -271,9 +285,9 @@ static void check_blank(struct lent *lent, struct slice bundle, uint64_t refusal
 /* The bundle once more over its own record: the memo is empty, and the last calls are answered as on a fresh one. */
 static void check_over(void)
 {
-    static uint8_t bytes[AREA], answers[5 * MOST_CALLS];
-    size_t count = calls.length / 4, last = count < 2 ? count : 2;
-    struct slice list = {calls.start + 4 * (count - last), 4 * last};
+    static uint8_t bytes[AREA], answers[ANSWER * MOST_CALLS];
+    size_t count = calls.length / CALL, last = count < 2 ? count : 2;
+    struct slice list = {calls.start + CALL * (count - last), CALL * last};
 
     load_accepted(&first, text);
     must(same(written(&first, bytes), text), "write: something is left of the rules before");
@@ -285,9 +299,9 @@ static void check_over(void)
 /* Octets of a record altered, the memo emptied: it has no bundle, or is the record of the one that it writes. By the engine alone. */
 static void check_altered_record(void)
 {
-    static uint8_t bytes[AREA], theirs[5 * MOST_CALLS];
+    static uint8_t bytes[AREA], theirs[ANSWER * MOST_CALLS];
     static access_record altered, before, other;
-    size_t room = 5 * (calls.length / 4), count;
+    size_t room = ANSWER * (calls.length / CALL), count;
     uint64_t value;
     unsigned i;
 
@@ -304,13 +318,53 @@ static void check_altered_record(void)
         must(access_load(&other, bytes, (size_t)value) == 0, "load: what was written is refused");
     lend(room);
     count = (size_t)access_answer(&altered, calls.start, calls.length, engine_area.lent, room);
-    must(count == calls.length / 4 && area_stays(&engine_area, room), "answer: another number of answers, or bytes around them changed");
+    must(count == calls.length / CALL && area_stays(&engine_area, room), "answer: another number of answers, or bytes around them changed");
     if (value >> 32 == 19) {
         check_unloadable(engine_area.lent, count, memcmp(&before, &altered, IN_USE) == 0);
         return;
     }
     access_answer(&other, calls.start, calls.length, theirs, room);
     must(memcmp(engine_area.lent, theirs, room) == 0, "answer: not that of the bundle that the record writes");
+}
+
+/* The calls that evaluate afresh; the length of them. */
+static size_t afresh(uint8_t *list)
+{
+    size_t i, length = 0;
+
+    for (i = 0; i + CALL <= calls.length; i += CALL)
+        if (calls.start[i] >= ACCESS_CALL_LIBERAL && calls.start[i] <= ACCESS_CALL_TICKET)
+            memcpy(list + length, calls.start + i, CALL), length += CALL;
+    return length;
+}
+
+/* Any memo, for the object and the requestor of a call. */
+static void fill_memo(access_record *record, const uint8_t *call)
+{
+    uint8_t *memo = (uint8_t *)record + MEMO;
+    unsigned i;
+
+    memo[0] = call[2], memo[1] = call[3];
+    for (i = 2; i < IN_USE - MEMO; i++)
+        memo[i] = random_any() & 1;
+}
+
+/* Tickets, liberal and strict evaluate afresh: two records that differ in the memo alone answer the same. By the engine alone. */
+static void check_afresh(void)
+{
+    static uint8_t list[2 * MOST_CALLS], theirs[ANSWER * MOST_CALLS];
+    access_record filled = *first.engine, other = *first.engine, before;
+    size_t length = afresh(list), room = ANSWER * (length / CALL);
+
+    if (length == 0)
+        return;
+    fill_memo(&filled, list + CALL * (size_t)below((unsigned)(length / CALL)));
+    before = filled;
+    lend(room);
+    access_answer(&filled, list, length, engine_area.lent, room);
+    access_answer(&other, list, length, theirs, room);
+    must(memcmp(engine_area.lent, theirs, room) == 0, "answer: liberal, strict or a ticket took a value from the memo");
+    must(memcmp(&before, &filled, IN_USE) == 0, "answer: liberal, strict or a ticket changed the memo");
 }
 
 /* Lent records on an accepted bundle, whose calls have these answers in one list. */
@@ -325,7 +379,8 @@ void check_lent(const uint8_t *answers)
     check_parts(&first, calls, answers, text);
     if (one_in(2))
         check_altered_record();
-    if (calls.length >= 4 && one_in(3))
+    check_afresh();
+    if (calls.length >= CALL && one_in(3))
         check_turns(answers);
     check_over();
 }
@@ -333,10 +388,11 @@ void check_lent(const uint8_t *answers)
 /* A refused bundle over rules that were asked about. */
 void check_lent_refused(uint64_t refusal)
 {
-    static const uint8_t ask[] = {3, 0, 0, 1}, granted[] = {0, 0, 0, 1, 1};
+    static const uint8_t ask[CALL] = {ACCESS_CALL_LAZY, 0, 0, 1}, granted[ANSWER] = {0, 0, 0, 1, 1};
 
     zero(&first), zero(&again);
     load_accepted(&first, constant(rules));
-    must(answer(&first, (struct slice){ask, 4}, 5) == 1 && memcmp(engine_area.lent, granted, 5) == 0, "answer: not granted by the rules");
+    must(answer(&first, (struct slice){ask, CALL}, ANSWER) == 1, "answer: another number of answers");
+    must(memcmp(engine_area.lent, granted, ANSWER) == 0, "answer: not granted by the rules");
     check_blank(&first, text, refusal, calls);
 }

@@ -2,8 +2,8 @@
 #include <stdlib.h>
 #include <string.h>
 
-#include "bundle.h"
 #include "random.h"
+#include "sets.h"
 
 size_t LLVMFuzzerMutate(uint8_t *data, size_t size, size_t max_size);
 
@@ -399,15 +399,24 @@ static void seal(void)
         seal_end();
 }
 
-/* Fills in a call that suits the bundle: a known edge or a new one, or a question by a user. */
+/* Gives a ticket a set near one that was granted, and now and then another call one, which it ignores. */
+static void fill_set(uint8_t *call)
+{
+    bool has_set = call[0] == ACCESS_CALL_TICKET || one_in(10);
+
+    set_put(call, has_set ? set_near(set_noted(), count_of(&bundle, PRINCIPAL)) : 0);
+}
+
+/* Fills in a call that suits the bundle: a known edge or a new one, or a question or ticket for a user. */
 static void fill_call(uint8_t *call)
 {
     const struct line *edge = line_of(&bundle, EDGE, below((unsigned)count_of(&bundle, EDGE)));
     const struct line *user = line_of(&bundle, USER, below((unsigned)count_of(&bundle, USER)));
     struct line any;
 
-    call[0] = one_in(40) ? (uint8_t)random_any() : (uint8_t)below(6);
-    if (call[0] < 2) {
+    call[0] = one_in(40) ? (uint8_t)random_any() : (uint8_t)below(ACCESS_CALL_TICKET + 1);
+    fill_set(call);
+    if (call[0] < ACCESS_CALL_EAGER) {
         fill_body(EDGE, any.octets + 2);
         memcpy(call + 1, edge && one_in(2) ? edge->octets + 2 : any.octets + 2, 3);
         return;
@@ -417,23 +426,25 @@ static void fill_call(uint8_t *call)
     call[3] = user && !one_in(12) ? user->octets[2] : an_object();
 }
 
-/* Puts four octets of a call before a place; without room nothing happens. */
+/* Puts the octets of a call before a place; without room nothing happens. */
 static void insert_call(size_t place, const uint8_t *call)
 {
-    if (calls_length + 4 > MOST_CALLS)
+    if (calls_length + CALL > MOST_CALLS)
         return;
-    memmove(calls + place + 4, calls + place, calls_length - place);
-    memcpy(calls + place, call, 4);
-    calls_length += 4;
+    memmove(calls + place + CALL, calls + place, calls_length - place);
+    memcpy(calls + place, call, CALL);
+    calls_length += CALL;
 }
 
-/* Repeats a call behind another one, mostly in the other form. */
+/* Repeats a call behind another one, mostly in the other form or as a ticket. */
 static void repeat_call(size_t from, size_t to)
 {
-    uint8_t call[4];
+    uint8_t call[CALL];
 
-    memcpy(call, calls + from, 4);
-    if (call[0] < 6 && !one_in(4))
+    memcpy(call, calls + from, CALL);
+    if (call[0] >= ACCESS_CALL_EAGER && call[0] <= ACCESS_CALL_TICKET && one_in(3))
+        call[0] = ACCESS_CALL_TICKET, fill_set(call);
+    else if (call[0] < ACCESS_CALL_TICKET && !one_in(4))
         call[0] ^= 1;
     insert_call(to, call);
 }
@@ -441,8 +452,8 @@ static void repeat_call(size_t from, size_t to)
 /* Changes the calls once. */
 static void change_calls(void)
 {
-    size_t whole = calls_length / 4, place = 4 * below((unsigned)whole), other = 4 * below((unsigned)whole);
-    uint8_t call[4], *octet = &calls[below((unsigned)calls_length)];
+    size_t whole = calls_length / CALL, place = CALL * below((unsigned)whole), other = CALL * below((unsigned)whole);
+    uint8_t call[CALL], *octet = &calls[below((unsigned)calls_length)];
 
     fill_call(call);
     switch (whole ? below(10) : 0) {
@@ -452,7 +463,7 @@ static void change_calls(void)
         insert_call(place, call);
         break;
     case 3:
-        memcpy(calls + place, call, 4);
+        memcpy(calls + place, call, CALL);
         break;
     case 4:
         repeat_call(place, other);
@@ -462,13 +473,13 @@ static void change_calls(void)
         *octet = another(*octet);
         break;
     case 7:
-        calls_length -= 1 + below(4);
+        calls_length -= 1 + below(CALL);
         break;
     case 8:
         calls_length = LLVMFuzzerMutate(calls, calls_length, MOST_CALLS);
         break;
     default:
-        memmove(calls + place, calls + place + 4, calls_length - place - 4), calls_length -= 4;
+        memmove(calls + place, calls + place + CALL, calls_length - place - CALL), calls_length -= CALL;
     }
 }
 
@@ -483,15 +494,18 @@ static bool line_names(unsigned kind, uint8_t number)
     return false;
 }
 
-/* Brings the numbers of a call into range, the requestor among the users. */
+/* Brings the numbers of a call into range, the requestor among the users, and in half the calls the members among the principals. */
 static void repair_call(uint8_t *call)
 {
     const struct line *user = line_of(&bundle, USER, brought(call[3], count_of(&bundle, USER)));
+    size_t principals = count_of(&bundle, PRINCIPAL);
 
-    call[0] = one_in(20) ? call[0] : brought(call[0], 6);
-    call[1] = brought(call[1], call[0] < 2 ? 16 : count_of(&bundle, METHOD));
+    call[0] = one_in(20) ? call[0] : brought(call[0], ACCESS_CALL_TICKET + 1);
+    if (one_in(2) && principals < 32)
+        set_put(call, set_of_call(call) & (((uint32_t)1 << principals) - 1));
+    call[1] = brought(call[1], call[0] < ACCESS_CALL_EAGER ? 16 : count_of(&bundle, METHOD));
     call[2] = brought(call[2], objects_of(&bundle));
-    call[3] = call[0] >= 2 && user && !line_names(USER, call[3]) ? user->octets[2] : brought(call[3], objects_of(&bundle));
+    call[3] = call[0] >= ACCESS_CALL_EAGER && user && !line_names(USER, call[3]) ? user->octets[2] : brought(call[3], objects_of(&bundle));
 }
 
 /* In half the inputs, brings the numbers of all calls into range. */
@@ -500,7 +514,7 @@ static void repair_calls(void)
     size_t i;
 
     if (one_in(2))
-        for (i = 0; i + 4 <= calls_length; i += 4)
+        for (i = 0; i + CALL <= calls_length; i += CALL)
             repair_call(calls + i);
 }
 
@@ -517,7 +531,7 @@ static void read_input(const uint8_t *data, size_t size)
 /* Puts the input together, now and then with a damaged text. */
 static size_t write_input(uint8_t *data, size_t max_size)
 {
-    size_t size = input_join(data, max_size, (struct slice){calls, calls_length}, &bundle), text = 1 + calls_length;
+    size_t size = input_join(data, max_size, (struct slice){calls, calls_length}, &bundle), text = COUNT + calls_length;
 
     if (one_in(25) && size > text)
         size = text + LLVMFuzzerMutate(data + text, size - text, max_size - text);

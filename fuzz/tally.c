@@ -2,7 +2,9 @@
 
 #include <stdio.h>
 
-static size_t bundles[19], answers[19], kinds[7], granted, yes, dropped;
+#include "sets.h"
+
+static size_t bundles[19], answers[23], kinds[8], granted, yes, tickets, dropped;
 static size_t parts, writes[20], again, of_edited, refused, altered[20];
 
 /* Counts a bundle by its number. */
@@ -20,12 +22,13 @@ void tally_short(void)
 /* Counts an answer by its number and by the kind of its call. */
 void tally_answer(unsigned kind, const uint8_t *answer)
 {
-    uint32_t set = (uint32_t)answer[1] << 16 | (uint32_t)answer[2] << 8 | answer[3];
+    uint32_t set = set_of_answer(answer);
 
     answers[answer[0]]++;
-    kinds[kind > 5 ? 6 : kind]++;
-    granted += (kind == 2 || kind == 3) && set != 0;
-    yes += (kind == 4 || kind == 5) && set != 0;
+    kinds[kind > ACCESS_CALL_TICKET ? 7 : kind]++;
+    granted += (kind == ACCESS_CALL_EAGER || kind == ACCESS_CALL_LAZY) && set != 0;
+    yes += (kind == ACCESS_CALL_LIBERAL || kind == ACCESS_CALL_STRICT) && set != 0;
+    tickets += kind == ACCESS_CALL_TICKET && answer[0] == 0;
 }
 
 /* Counts the calls left out as too slow. */
@@ -76,7 +79,7 @@ static void tally_lent_print(void)
 /* Prints the counts. */
 void tally_print(void)
 {
-    static const char *names[] = {"add", "remove", "eager", "lazy", "liberal", "strict", "other"};
+    static const char *names[] = {"add", "remove", "eager", "lazy", "liberal", "strict", "ticket", "other"};
     int i;
 
     fprintf(stderr, "bundles by number: 0:%zu", bundles[0]);
@@ -85,9 +88,12 @@ void tally_print(void)
     fprintf(stderr, "; buffers too short 18:%zu\nanswers by number: 0:%zu 4:%zu", bundles[18], answers[0], answers[4]);
     for (i = 10; i <= 17; i++)
         fprintf(stderr, " %d:%zu", i, answers[i]);
+    for (i = 20; i <= 22; i++)
+        fprintf(stderr, " %d:%zu", i, answers[i]);
     fprintf(stderr, "\nanswers by kind:");
-    for (i = 0; i < 7; i++)
+    for (i = 0; i < 8; i++)
         fprintf(stderr, " %s:%zu", names[i], kinds[i]);
-    fprintf(stderr, "; sets granted other than the empty one: %zu; yes: %zu; calls left out as too slow: %zu\n", granted, yes, dropped);
+    fprintf(stderr, "; sets granted other than the empty one: %zu; yes: %zu; tickets accepted: %zu; ", granted, yes, tickets);
+    fprintf(stderr, "calls left out as too slow: %zu\n", dropped);
     tally_lent_print();
 }

@@ -33,14 +33,14 @@
 /* ---- sizes */
 
 /* A call and its answer, in octets. */
-#define ACCESS_CALL_OCTETS 4
+#define ACCESS_CALL_OCTETS 8
 #define ACCESS_ANSWER_OCTETS 5
 
 /* The longest input that the program `rewrite` reads, in bytes. It is a limit of that program alone: the functions below take a text
  * of any length. No text that loads is longer, so that a buffer of this size holds any bundle (the longest has 18,583 bytes). */
 #define ACCESS_LARGEST_BUNDLE 65536
 
-/* ---- numbers: document 01, "Grounds for refusing" */
+/* ---- numbers: document 01, "Grounds for refusing"; 20 to 22 are those of request 2026-01 */
 
 enum access_refusal {
     /* success */
@@ -63,7 +63,7 @@ enum access_refusal {
     ACCESS_EDGE_ABSENT = 12,
     ACCESS_EDGES_FULL = 13,
 
-    /* questions, liberal and strict (17: questions alone) */
+    /* questions, liberal, strict and tickets (17: questions alone) */
     ACCESS_NO_METHOD = 14,
     ACCESS_NO_OBJECT = 15,
     ACCESS_NOT_USER = 16,
@@ -73,7 +73,12 @@ enum access_refusal {
     ACCESS_SHORT_BUFFER = 18,
 
     /* any call but loading; no record that was loaded is refused so */
-    ACCESS_NOT_LOADABLE = 19
+    ACCESS_NOT_LOADABLE = 19,
+
+    /* tickets */
+    ACCESS_NOT_ENABLED = 20, /* a member; or it is no principal */
+    ACCESS_NOT_CONSISTENT = 21,
+    ACCESS_GUARD_NOT_MET = 22
 };
 
 /* What a number means. Another number has a text too, which says so. */
@@ -120,6 +125,12 @@ static inline const char *access_number_text(unsigned number)
         return "buffer too short";
     case ACCESS_NOT_LOADABLE:
         return "no bundle loads to this record";
+    case ACCESS_NOT_ENABLED:
+        return "member is no principal or is not enabled";
+    case ACCESS_NOT_CONSISTENT:
+        return "set is not consistent";
+    case ACCESS_GUARD_NOT_MET:
+        return "set does not meet the guard";
     default:
         return "no such number";
     }
@@ -133,7 +144,8 @@ enum access_call {
     ACCESS_CALL_EAGER = 2,   /* method, object, requestor */
     ACCESS_CALL_LAZY = 3,    /* method, object, requestor */
     ACCESS_CALL_LIBERAL = 4, /* method, object, requestor */
-    ACCESS_CALL_STRICT = 5   /* method, object, requestor */
+    ACCESS_CALL_STRICT = 5,  /* method, object, requestor */
+    ACCESS_CALL_TICKET = 6   /* method, object, requestor; set */
 };
 
 /* ---- results: number * 2^32 + value, with document 01's numbers (0 for success) */
@@ -159,8 +171,10 @@ extern "C" {
 uint64_t access_rewrite(const uint8_t *bundle, size_t bundle_length, uint8_t *out, size_t out_length);
 
 /* Loads a bundle, then answers each call in turn, on the record that the calls before it left.
- * A call is 4 octets: its kind, then three numbers (enum access_call). A kind above 5 is answered with number 4 and changes nothing.
- * An answer is 5 octets: number; set number in 3 octets, the high one first (1 for yes of liberal and strict); evaluations.
+ * A call is 8 octets: its kind, three numbers (enum access_call), then a ticket's set number in 4 octets, the high one first; these
+ * four are ignored by the other kinds. A kind above 6 is answered with number 4 and changes nothing.
+ * An answer is 5 octets: number; set number in 3 octets, the high one first (1 for yes of liberal and strict); evaluations. Of an
+ * edit's and of a ticket's only the number can differ from 0.
  * As many calls are answered as are whole in calls and have room in answers; bytes past them stay.
  * The value is the count of answers; for a bundle that is refused its number (1 to 9) and the value 0, and answers stays. */
 uint64_t access_replay(const uint8_t *bundle, size_t bundle_length, const uint8_t *calls, size_t calls_length, uint8_t *answers,
@@ -226,10 +240,11 @@ static inline uint8_t access_octet(unsigned number)
     return (uint8_t)(number < 255 ? number : 255);
 }
 
-/* Answers one call of any kind. */
-static inline access_decision access_one(access_record *record, enum access_call kind, unsigned a, unsigned b, unsigned c)
+/* Answers one call of any kind. The set is a ticket's, and ignored by the other kinds. */
+static inline access_decision access_one(access_record *record, enum access_call kind, unsigned a, unsigned b, unsigned c, uint32_t set)
 {
-    const uint8_t call[ACCESS_CALL_OCTETS] = {(uint8_t)kind, access_octet(a), access_octet(b), access_octet(c)};
+    const uint8_t call[ACCESS_CALL_OCTETS] = {(uint8_t)kind,        access_octet(a),      access_octet(b),     access_octet(c),
+                                              (uint8_t)(set >> 24), (uint8_t)(set >> 16), (uint8_t)(set >> 8), (uint8_t)set};
     uint8_t answer[ACCESS_ANSWER_OCTETS] = {ACCESS_NOT_LOADABLE, 0, 0, 0, 0};
     access_decision decision;
 
@@ -243,24 +258,24 @@ static inline access_decision access_one(access_record *record, enum access_call
 /* Adds an edge, or removes one: the number. */
 static inline unsigned access_add(access_record *record, unsigned label, unsigned from, unsigned to)
 {
-    return access_one(record, ACCESS_CALL_ADD, label, from, to).number;
+    return access_one(record, ACCESS_CALL_ADD, label, from, to, 0).number;
 }
 
 static inline unsigned access_remove(access_record *record, unsigned label, unsigned from, unsigned to)
 {
-    return access_one(record, ACCESS_CALL_REMOVE, label, from, to).number;
+    return access_one(record, ACCESS_CALL_REMOVE, label, from, to, 0).number;
 }
 
 /* Decides whether the requestor may use the method on the object. Both forms give the same number and set; on equal records lazy
  * evaluates no more formulas than eager. */
 static inline access_decision access_eager(access_record *record, unsigned method, unsigned object, unsigned requestor)
 {
-    return access_one(record, ACCESS_CALL_EAGER, method, object, requestor);
+    return access_one(record, ACCESS_CALL_EAGER, method, object, requestor, 0);
 }
 
 static inline access_decision access_lazy(access_record *record, unsigned method, unsigned object, unsigned requestor)
 {
-    return access_one(record, ACCESS_CALL_LAZY, method, object, requestor);
+    return access_one(record, ACCESS_CALL_LAZY, method, object, requestor, 0);
 }
 
 static inline access_verdict access_verdict_of(access_decision answer)
@@ -276,12 +291,21 @@ static inline access_verdict access_verdict_of(access_decision answer)
  * constraints are ignored. The record stays. */
 static inline access_verdict access_liberal(access_record *record, unsigned method, unsigned object, unsigned requestor)
 {
-    return access_verdict_of(access_one(record, ACCESS_CALL_LIBERAL, method, object, requestor));
+    return access_verdict_of(access_one(record, ACCESS_CALL_LIBERAL, method, object, requestor, 0));
 }
 
 static inline access_verdict access_strict(access_record *record, unsigned method, unsigned object, unsigned requestor)
 {
-    return access_verdict_of(access_one(record, ACCESS_CALL_STRICT, method, object, requestor));
+    return access_verdict_of(access_one(record, ACCESS_CALL_STRICT, method, object, requestor, 0));
+}
+
+/* Checks a ticket, a grant that somebody proposes by its set number (principal p is a member where set >> p & 1): the number. It is 0
+ * exactly when every member is a principal and enabled (else 20), the set is consistent (else 21) and it meets the method's guard
+ * (else 22), whoever proposed it and whether or not another set is less; 19 and 14 to 16 come first. All is evaluated afresh. The
+ * record stays, memo included. */
+static inline unsigned access_ticket(access_record *record, unsigned method, unsigned object, unsigned requestor, uint32_t set)
+{
+    return access_one(record, ACCESS_CALL_TICKET, method, object, requestor, set).number;
 }
 
 /* Loads a bundle as access_load does, but a refused one leaves the record as it was: its rules, edits included, stay in force. */

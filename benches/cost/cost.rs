@@ -12,7 +12,7 @@ mod engine {
         fn access_load(record: *mut Record, bundle: *const u8, length: usize) -> u64;
         fn access_answer(
             record: *mut Record,
-            calls: *const [u8; 4],
+            calls: *const [u8; 8],
             calls_length: usize,
             answers: *mut [u8; 5],
             answers_length: usize,
@@ -32,8 +32,8 @@ mod engine {
         }
 
         // Answers as many calls as there are answers.
-        pub fn answer(&mut self, calls: &[[u8; 4]], answers: &mut [[u8; 5]]) {
-            let (c, a) = (4 * calls.len(), 5 * answers.len());
+        pub fn answer(&mut self, calls: &[[u8; 8]], answers: &mut [[u8; 5]]) {
+            let (c, a) = (8 * calls.len(), 5 * answers.len());
             let count = unsafe { access_answer(&mut *self.0, calls.as_ptr(), c, answers.as_mut_ptr(), a) };
             if count != answers.len() as u64 {
                 super::stop("not every call was answered");
@@ -43,7 +43,7 @@ mod engine {
         // The set that a question about object 0 is granted, or NO_SET.
         pub fn ask(&mut self, kind: u8, method: u8, requestor: u8) -> u32 {
             let mut answers = [[0; 5]];
-            self.answer(&[[kind, method, 0, requestor]], &mut answers);
+            self.answer(&[[kind, method, 0, requestor, 0, 0, 0, 0]], &mut answers);
             match answers[0] {
                 [0, high, middle, low, _] => u32::from_be_bytes([0, high, middle, low]),
                 [17, ..] => super::NO_SET,
@@ -166,8 +166,8 @@ fn joined(innermost: [u8; 3], height: u8) -> Vec<u8> {
 
 // Two objects in turn, 0 the last, so that each question empties the memo and evaluates. The answer is the empty set whatever that
 // comes to.
-fn evaluations() -> [[u8; 4]; QUESTIONS] {
-    std::array::from_fn(|i| [EAGER, 1, (i as u8 + 1) % 2, OBJECTS - 1])
+fn evaluations() -> [[u8; 8]; QUESTIONS] {
+    std::array::from_fn(|i| [EAGER, 1, (i as u8 + 1) % 2, OBJECTS - 1, 0, 0, 0, 0])
 }
 
 fn formulas() {

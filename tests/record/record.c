@@ -91,6 +91,42 @@ static void kept(access_record *record)
     EXPECT(fields(record).memo.requestor == 0 && known(record) == 0);
 }
 
+/* Whether two records have the same octets in every field, the memo's too; nothing lies behind the memo. */
+static int same(const access_record *one, const access_record *other)
+{
+    return memcmp(one, other, offsetof(struct Record, memo) + sizeof(struct Memo)) == 0;
+}
+
+/* Tickets on the crown, whose memo knows something of Ana: whatever they are answered with, the record stays. */
+static void tickets(access_record record)
+{
+    const uint8_t list[] = {ACCESS_CALL_TICKET, 0, 0, 1, 0, 0, 0, 6, ACCESS_CALL_TICKET, 0, 0, 2, 0, 0, 0, 6},
+                  lazy[] = {ACCESS_CALL_LAZY, 0, 0, 1, 255, 255, 255, 255}, granted[] = {0, 0, 0, 6, 0};
+    access_record before;
+    uint8_t answers[10] = {1, 1, 1, 1, 1, 1, 1, 1, 1, 1};
+
+    EXPECT(access_lazy(&record, 0, 0, 1).set == 6);
+    before = record;
+    EXPECT(access_ticket(&record, 0, 0, 1, 6) == ACCESS_ACCEPTED);
+    EXPECT(access_ticket(&record, 1, 0, 1, 1) == ACCESS_ACCEPTED);
+    EXPECT(access_ticket(&record, 1, 0, 1, 5) == ACCESS_ACCEPTED);
+    EXPECT(access_ticket(&record, 2, 0, 2, 0) == ACCESS_ACCEPTED);
+    EXPECT(access_ticket(&record, 0, 0, 2, 6) == ACCESS_NOT_ENABLED);
+    EXPECT(access_ticket(&record, 0, 0, 1, 6 + 8) == ACCESS_NOT_ENABLED);
+    EXPECT(access_ticket(&record, 0, 0, 1, 0x80000006u) == ACCESS_NOT_ENABLED);
+    EXPECT(access_ticket(&record, 0, 0, 1, 0xFFFFFFFFu) == ACCESS_NOT_ENABLED);
+    EXPECT(access_ticket(&record, 0, 0, 1, 3) == ACCESS_NOT_CONSISTENT);
+    EXPECT(access_ticket(&record, 0, 0, 2, 2) == ACCESS_NOT_CONSISTENT);
+    EXPECT(access_ticket(&record, 0, 0, 1, 4) == ACCESS_GUARD_NOT_MET);
+    EXPECT(access_ticket(&record, 4, 3, 0, 8) == ACCESS_NO_METHOD);
+    EXPECT(access_ticket(&record, 0, 3, 0, 8) == ACCESS_NO_OBJECT);
+    EXPECT(access_ticket(&record, 0, 0, 0, 8) == ACCESS_NOT_USER);
+    EXPECT(same(&record, &before));
+    EXPECT(access_answer(&record, list, sizeof list, answers, sizeof answers) == 2 && same(&record, &before));
+    EXPECT(memcmp(answers, (const uint8_t[]){0, 0, 0, 0, 0, ACCESS_NOT_ENABLED, 0, 0, 0, 0}, sizeof answers) == 0);
+    EXPECT(access_answer(&record, lazy, sizeof lazy, answers, 5) == 1 && memcmp(answers, granted, 5) == 0);
+}
+
 /* Loading into a record that has rules. */
 static void loaded_over(access_record *record, const uint8_t *bundle, size_t length)
 {
@@ -108,10 +144,11 @@ static void loaded_over(access_record *record, const uint8_t *bundle, size_t len
 static void refused(const access_record *crown)
 {
     access_record zero = ACCESS_RECORD_ZERO, record = *crown;
-    uint8_t call[] = {6, 0, 0, 0}, answer[5], out[64];
+    uint8_t call[] = {7, 0, 0, 0, 0, 0, 0, 0}, answer[5], out[64];
 
     EXPECT(access_lazy(&zero, 0, 0, 1).number == ACCESS_NOT_LOADABLE);
     EXPECT(access_add(&zero, 0, 0, 0) == ACCESS_NOT_LOADABLE);
+    EXPECT(access_ticket(&zero, 0, 0, 1, 0) == ACCESS_NOT_LOADABLE);
     EXPECT(access_write(&zero, out, sizeof out) == (uint64_t)ACCESS_NOT_LOADABLE << 32);
     EXPECT(access_lazy(&record, 256, 0, 1).number == ACCESS_NO_METHOD);
     EXPECT(access_eager(&record, 0, 256, 1).number == ACCESS_NO_OBJECT);
@@ -121,6 +158,7 @@ static void refused(const access_record *crown)
     EXPECT(access_add(&record, 0, 0, 258) == ACCESS_EDGE_OUT_OF_RANGE);
     EXPECT(access_answer(&record, call, sizeof call, answer, sizeof answer) == 1 && answer[0] == ACCESS_WRONG_KIND);
     EXPECT(access_answer(&record, call, sizeof call, answer, 4) == 0);
+    EXPECT(access_answer(&record, call, sizeof call - 1, answer, sizeof answer) == 0);
     EXPECT(fields(&record).edge_count == 3);
 }
 
@@ -139,6 +177,7 @@ int main(void)
     loaded_over(&own.record, bundle, length);
     EXPECT(memcmp(own.after, untouched, sizeof untouched) == 0);
     crown(&snapshot);
+    tickets(snapshot);
     refused(&snapshot);
     if (failed == 0)
         printf("record: %d checks passed\n", passed);

@@ -3,7 +3,7 @@
 use crate::{Decision, Refused, Set};
 
 /// How many octets a call has.
-pub(crate) const CALL_OCTETS: usize = 4;
+pub(crate) const CALL_OCTETS: usize = 8;
 
 /// How many octets an answer has.
 pub(crate) const ANSWER_OCTETS: usize = 5;
@@ -30,6 +30,15 @@ pub struct Question {
     pub requestor: u8,
 }
 
+/// A grant that somebody proposes: the answer to a question, to be checked.
+#[derive(Clone, Copy, Debug, PartialEq, Eq, Hash)]
+pub struct Ticket {
+    /// What is to be granted, and to whom.
+    pub question: Question,
+    /// The grounds it is to be granted on.
+    pub set: Set,
+}
+
 /// One call of a list, for [`Engine::answer`](crate::Engine::answer).
 #[derive(Clone, Copy, Debug, PartialEq, Eq, Hash)]
 pub enum Call {
@@ -45,6 +54,8 @@ pub enum Call {
     Liberal(Question),
     /// Asks whether one enabled ground alone meets the guard.
     Strict(Question),
+    /// Checks a proposed grant.
+    Ticket(Ticket),
 }
 
 /// The answer to one call of a list.
@@ -56,10 +67,12 @@ pub enum Answer {
     Decision(Result<Decision, Refused>),
     /// To [`Call::Liberal`] and [`Call::Strict`]: yes or no.
     Verdict(Result<bool, Refused>),
+    /// To [`Call::Ticket`]: accepted, or why not.
+    Ticket(Result<(), Refused>),
 }
 
 impl Call {
-    /// Kind, then three numbers.
+    /// Kind, three numbers, then a ticket's set number in 4 octets with the high one first.
     pub(crate) fn octets(self) -> [u8; CALL_OCTETS] {
         match self {
             Call::Add(edge) => edge.octets(0),
@@ -68,33 +81,51 @@ impl Call {
             Call::Lazy(question) => question.octets(3),
             Call::Liberal(question) => question.octets(4),
             Call::Strict(question) => question.octets(5),
+            Call::Ticket(ticket) => ticket.octets(6),
         }
     }
 
     /// What the answer's octets say to this call.
     pub(crate) fn answer(self, octets: [u8; ANSWER_OCTETS]) -> Answer {
         match self {
-            Call::Add(_) | Call::Remove(_) => Answer::Edit(edit(octets)),
+            Call::Add(_) | Call::Remove(_) => Answer::Edit(accepted(octets)),
             Call::Eager(_) | Call::Lazy(_) => Answer::Decision(decision(octets)),
             Call::Liberal(_) | Call::Strict(_) => Answer::Verdict(verdict(octets)),
+            Call::Ticket(_) => Answer::Ticket(accepted(octets)),
         }
     }
 }
 
 impl Edge {
     fn octets(self, kind: u8) -> [u8; CALL_OCTETS] {
-        [kind, self.label, self.from, self.to]
+        call(kind, [self.label, self.from, self.to], Set::default())
     }
 }
 
 impl Question {
     fn octets(self, kind: u8) -> [u8; CALL_OCTETS] {
-        [kind, self.method, self.object, self.requestor]
+        self.with(kind, Set::default())
+    }
+
+    fn with(self, kind: u8, set: Set) -> [u8; CALL_OCTETS] {
+        call(kind, [self.method, self.object, self.requestor], set)
     }
 }
 
-/// The answer to an edit.
-pub(crate) fn edit(octets: [u8; ANSWER_OCTETS]) -> Result<(), Refused> {
+impl Ticket {
+    fn octets(self, kind: u8) -> [u8; CALL_OCTETS] {
+        self.question.with(kind, self.set)
+    }
+}
+
+/// The octets of a call; the set is of use in a ticket alone.
+fn call(kind: u8, [x, y, z]: [u8; 3], set: Set) -> [u8; CALL_OCTETS] {
+    let [highest, high, low, lowest] = set.number().to_be_bytes();
+    [kind, x, y, z, highest, high, low, lowest]
+}
+
+/// The answer to an edit or a ticket.
+pub(crate) fn accepted(octets: [u8; ANSWER_OCTETS]) -> Result<(), Refused> {
     match octets[0] {
         0 => Ok(()),
         number => Err(Refused::of_number(number, 0)),

@@ -1,8 +1,8 @@
 //! The engine: a record, and the calls on it.
 
-use crate::call::{decision, edit, verdict, ANSWER_OCTETS, CALL_OCTETS};
+use crate::call::{accepted, decision, verdict, ANSWER_OCTETS, CALL_OCTETS};
 use crate::record::Record;
-use crate::{Answer, Call, Decision, Edge, Question, Refused};
+use crate::{Answer, Call, Decision, Edge, Question, Refused, Ticket};
 use std::fmt;
 
 /// The rules of a bundle, the edges as they were edited since, and the memo of the last question.
@@ -30,12 +30,12 @@ impl Engine {
 
     /// Adds an edge. Refused with 10, 11 or 13; then nothing changes.
     pub fn add(&mut self, edge: Edge) -> Result<(), Refused> {
-        edit(self.record.answered(Call::Add(edge)))
+        accepted(self.record.answered(Call::Add(edge)))
     }
 
     /// Removes an edge. Refused with 10 or 12; then nothing changes.
     pub fn remove(&mut self, edge: Edge) -> Result<(), Refused> {
-        edit(self.record.answered(Call::Remove(edge)))
+        accepted(self.record.answered(Call::Remove(edge)))
     }
 
     /// Decides, with every ground evaluated unless the memo knows it. Refused with 14, 15 or 16.
@@ -57,6 +57,13 @@ impl Engine {
     /// Whether one enabled ground alone meets the guard, constraints ignored. Refused with 14, 15 or 16.
     pub fn strict(&self, question: Question) -> Result<bool, Refused> {
         verdict(self.copy().answered(Call::Strict(question)))
+    }
+
+    /// Accepts a proposed grant exactly when every member of its set is a principal and enabled, the set is
+    /// consistent, and it meets the guard: whoever proposed it, and whether or not another set is less.
+    /// Everything is evaluated afresh. Refused with 14, 15 or 16, then 20, 21 or 22, the first that applies.
+    pub fn ticket(&self, ticket: Ticket) -> Result<(), Refused> {
+        accepted(self.copy().answered(Call::Ticket(ticket)))
     }
 
     /// Answers a list of calls, each on the record that those before it left. It is quicker than one call

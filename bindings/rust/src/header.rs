@@ -2,7 +2,7 @@
 
 use crate::call::{ANSWER_OCTETS, CALL_OCTETS};
 use crate::record::{Record, RECORD_OCTETS};
-use crate::{Call, Edge, Question, Refused};
+use crate::{Call, Edge, Question, Refused, Set, Ticket};
 use std::mem::{align_of, size_of};
 
 const HEADER: &str = include_str!("../../../include/case_access.h");
@@ -79,33 +79,41 @@ fn kinds_of_calls() {
     };
     assert_eq!(
         Call::Add(edge).octets(),
-        [number("ACCESS_CALL_ADD"), 7, 8, 9]
+        [number("ACCESS_CALL_ADD"), 7, 8, 9, 0, 0, 0, 0]
     );
     assert_eq!(
         Call::Remove(edge).octets(),
-        [number("ACCESS_CALL_REMOVE"), 7, 8, 9]
+        [number("ACCESS_CALL_REMOVE"), 7, 8, 9, 0, 0, 0, 0]
     );
     assert_eq!(
         Call::Eager(question).octets(),
-        [number("ACCESS_CALL_EAGER"), 7, 8, 9]
+        [number("ACCESS_CALL_EAGER"), 7, 8, 9, 0, 0, 0, 0]
     );
     assert_eq!(
         Call::Lazy(question).octets(),
-        [number("ACCESS_CALL_LAZY"), 7, 8, 9]
+        [number("ACCESS_CALL_LAZY"), 7, 8, 9, 0, 0, 0, 0]
     );
     assert_eq!(
         Call::Liberal(question).octets(),
-        [number("ACCESS_CALL_LIBERAL"), 7, 8, 9]
+        [number("ACCESS_CALL_LIBERAL"), 7, 8, 9, 0, 0, 0, 0]
     );
     assert_eq!(
         Call::Strict(question).octets(),
-        [number("ACCESS_CALL_STRICT"), 7, 8, 9]
+        [number("ACCESS_CALL_STRICT"), 7, 8, 9, 0, 0, 0, 0]
+    );
+    let ticket = Ticket {
+        question,
+        set: Set::of_number(0x0A0B_0C0D),
+    };
+    assert_eq!(
+        Call::Ticket(ticket).octets(),
+        [number("ACCESS_CALL_TICKET"), 7, 8, 9, 10, 11, 12, 13]
     );
 }
 
 #[test]
 fn names_numbers_and_texts_of_refusals() {
-    for refusal in 1..=16 {
+    for refusal in (1..=16).chain(20..=22) {
         let refused = Refused::of_number(refusal, 1);
         assert_eq!(refused.number(), refusal);
         assert_eq!(number(&name(refused)), refusal);

@@ -4,7 +4,7 @@
 //! asked is decided on the edges as they then are. The crown of document 01:
 //!
 //! ```
-//! use case_access::{Decision, Edge, Engine, Question, Refused};
+//! use case_access::{Decision, Edge, Engine, Question, Refused, Set, Ticket};
 //!
 //! const CROWN: u8 = 0;
 //! const ANA: u8 = 1;
@@ -17,6 +17,11 @@
 //! let decision = engine.lazy(question)?;
 //! assert!(decision.is_granted());
 //! assert_eq!(format!("{decision}"), "granted {1, 2}, evaluations 2");
+//!
+//! // A design station may propose such a grant. Without principal 2 it is not consistent.
+//! let ticket = Ticket { question, set: Set::of_number(6) };
+//! assert_eq!(engine.ticket(ticket), Ok(()));
+//! assert_eq!(engine.ticket(Ticket { set: Set::of_number(2), ..ticket }), Err(Refused::NotConsistent));
 //!
 //! // She no longer checks the crown: no set of grounds will do.
 //! engine.remove(Edge { label: 1, from: CROWN, to: ANA })?;
@@ -44,7 +49,7 @@ mod record;
 mod refused;
 mod set;
 
-pub use call::{Answer, Call, Edge, Question};
+pub use call::{Answer, Call, Edge, Question, Ticket};
 pub use decision::Decision;
 pub use engine::Engine;
 pub use refused::Refused;

@@ -40,7 +40,7 @@ impl Record {
         packed(unsafe { access_load(self, bundle.as_ptr(), bundle.len()) })
     }
 
-    /// Answers calls of 4 octets by answers of 5: the count of answers.
+    /// Answers calls of 8 octets by answers of 5: the count of answers.
     pub(crate) fn answer(&mut self, calls: &[u8], answers: &mut [u8]) -> u64 {
         let (asked, room) = (calls.len(), answers.len());
         // SAFETY: as for `load`; `answers` is lent to nobody else.

@@ -70,6 +70,12 @@ pub enum Refused {
     NoObject,
     /// 16: the requestor is not a user.
     NotUser,
+    /// 20: a member of a ticket's set is no principal or is not enabled.
+    NotEnabled,
+    /// 21: a ticket's set is not consistent.
+    NotConsistent,
+    /// 22: a ticket's set does not meet the guard.
+    GuardNotMet,
 }
 
 impl Refused {
@@ -92,6 +98,9 @@ impl Refused {
             14 => Refused::NoMethod,
             15 => Refused::NoObject,
             16 => Refused::NotUser,
+            20 => Refused::NotEnabled,
+            21 => Refused::NotConsistent,
+            22 => Refused::GuardNotMet,
             _ => panic!("the library refused with {number}: it is not the one this package is for"),
         }
     }
@@ -144,6 +153,9 @@ impl Refused {
             Refused::NoMethod => (14, "no such method"),
             Refused::NoObject => (15, "no such object"),
             Refused::NotUser => (16, "requestor is not a user"),
+            Refused::NotEnabled => (20, "member is no principal or is not enabled"),
+            Refused::NotConsistent => (21, "set is not consistent"),
+            Refused::GuardNotMet => (22, "set does not meet the guard"),
         }
     }
 }

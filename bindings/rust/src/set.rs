@@ -2,14 +2,24 @@
 
 use std::fmt;
 
-/// A set of principals, the grounds of a grant.
+/// A set of principals, the grounds of a grant. It may name principals that the rules do not have; a ticket
+/// with such a set is refused.
 #[derive(Clone, Copy, Default, PartialEq, Eq, Hash)]
 pub struct Set(u32);
 
 impl Set {
-    /// The set that has this number; only the library names sets.
-    pub(crate) fn of_number(number: u32) -> Set {
+    /// The set that has this number.
+    pub fn of_number(number: u32) -> Set {
         Set(number)
+    }
+
+    /// The set of these members; `None` if one is above 31, which no set number has room for.
+    pub fn of_members(members: impl IntoIterator<Item = u8>) -> Option<Set> {
+        let mut number = 0;
+        for principal in members {
+            number |= 1u32.checked_shl(u32::from(principal))?;
+        }
+        Some(Set(number))
     }
 
     /// Document 01's set number: the sum of 2^p over the members.

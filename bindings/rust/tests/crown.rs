@@ -1,9 +1,9 @@
-//! Document 01's crown table: all on object 0, each from a fresh load.
+//! Document 01's crown table, and tickets on the crown: all on object 0, each from a fresh load.
 
 mod support;
 
-use case_access::{Decision, Refused};
-use support::{crown, grants, question, ANA, ANA_CHECKS, BEN, CROWN};
+use case_access::{Decision, Refused, Ticket};
+use support::{crown, grants, question, ticket, ANA, ANA_CHECKS, BEN, CROWN};
 
 #[test]
 fn a_to_e_ana_asks() {
@@ -42,4 +42,38 @@ fn k_the_crown_is_no_user() {
     assert_eq!(crown().eager(question(0, CROWN)), Err(Refused::NotUser));
     assert_eq!(crown().liberal(question(0, CROWN)), Err(Refused::NotUser));
     assert_eq!(crown().strict(question(0, CROWN)), Err(Refused::NotUser));
+}
+
+#[test]
+fn tickets_for_method_0() {
+    let inconsistent = Err(Refused::NotConsistent);
+    assert_eq!(crown().ticket(ticket(0, ANA, &[1, 2])), Ok(()));
+    assert_eq!(crown().ticket(ticket(0, ANA, &[1])), inconsistent);
+    assert_eq!(crown().ticket(ticket(0, ANA, &[0, 1])), inconsistent);
+    let guard = Err(Refused::GuardNotMet);
+    assert_eq!(crown().ticket(ticket(0, ANA, &[2])), guard);
+    assert_eq!(crown().ticket(ticket(0, BEN, &[1])), inconsistent);
+    let not_enabled = Err(Refused::NotEnabled);
+    assert_eq!(crown().ticket(ticket(0, BEN, &[1, 2])), not_enabled);
+}
+
+#[test]
+fn tickets_for_other_methods() {
+    assert_eq!(crown().ticket(ticket(1, ANA, &[0])), Ok(()));
+    assert_eq!(crown().ticket(ticket(1, ANA, &[0, 2])), Ok(()));
+    assert_eq!(crown().ticket(ticket(2, ANA, &[])), Ok(()));
+    assert_eq!(crown().ticket(ticket(2, BEN, &[])), Ok(()));
+    let all = ticket(3, ANA, &[0, 1, 2]);
+    assert_eq!(crown().ticket(all), Err(Refused::NotConsistent));
+    let none = ticket(1, ANA, &[]);
+    assert_eq!(crown().ticket(none), Err(Refused::GuardNotMet));
+}
+
+#[test]
+fn what_is_granted_is_accepted_as_a_ticket() {
+    for question in (0..3).map(|method| question(method, ANA)) {
+        let granted = crown().lazy(question).unwrap().set();
+        let set = granted.expect("Ana is granted methods 0 to 2");
+        assert_eq!(crown().ticket(Ticket { question, set }), Ok(()));
+    }
 }

@@ -2,7 +2,7 @@
 
 mod support;
 
-use case_access::{Answer, Call, Decision, Edge, Engine, Question};
+use case_access::{Answer, Call, Decision, Edge, Engine, Question, Set, Ticket};
 use support::{crown, grants, question, ANA, ANA_CHECKS, BEN, BUNDLE, CROWN};
 
 /// Every call on the crown: each kind, each method and one more, each object and one more.
@@ -26,8 +26,18 @@ fn calls() -> Vec<Call> {
         calls.extend(questions.iter().map(|&question| Call::Liberal(question)));
         calls.push(Call::Add(edge));
         calls.extend(questions.iter().map(|&question| Call::Strict(question)));
+        calls.extend(tickets(&questions));
     }
     calls
+}
+
+/// Each set of the crown's principals, and one with a member more, as a ticket for each question.
+fn tickets(questions: &[Question]) -> impl Iterator<Item = Call> + '_ {
+    let sets = (0..9).map(Set::of_number);
+    sets.flat_map(move |set| {
+        let proposed = move |&question| Call::Ticket(Ticket { question, set });
+        questions.iter().map(proposed)
+    })
 }
 
 /// The answer to one call, by the method of its name.
@@ -39,6 +49,7 @@ fn one(engine: &mut Engine, call: Call) -> Answer {
         Call::Lazy(question) => Answer::Decision(engine.lazy(question)),
         Call::Liberal(question) => Answer::Verdict(engine.liberal(question)),
         Call::Strict(question) => Answer::Verdict(engine.strict(question)),
+        Call::Ticket(ticket) => Answer::Ticket(engine.ticket(ticket)),
     }
 }
 
@@ -78,6 +89,17 @@ fn liberal_and_strict_leave_the_record() {
     assert_eq!(engine.liberal(question(3, BEN)), Ok(false));
     assert_eq!(engine.strict(question(0, BEN)), Ok(true));
     assert!(grants(engine.eager(question(0, ANA)).unwrap(), &[1, 2], 0));
+}
+
+#[test]
+fn tickets_leave_the_record() {
+    let mut engine = crown();
+    assert!(grants(engine.lazy(question(0, ANA)).unwrap(), &[1, 2], 2));
+    let proposed: Vec<Call> = tickets(&[question(0, ANA), question(0, BEN)]).collect();
+    let answers = engine.answer(&proposed);
+    assert!(answers.contains(&Answer::Ticket(Ok(()))));
+    assert!(grants(engine.eager(question(0, ANA)).unwrap(), &[1, 2], 1));
+    assert_eq!(engine.write(), BUNDLE);
 }
 
 #[test]

@@ -2,8 +2,8 @@
 
 mod support;
 
-use case_access::{Edge, Engine, Question, Refused};
-use support::{crown, question, with_line, ANA, ANA_CHECKS, BUNDLE};
+use case_access::{Edge, Engine, Question, Refused, Set, Ticket};
+use support::{crown, question, ticket, with_line, ANA, ANA_CHECKS, BEN, BUNDLE, CROWN};
 
 /// The refusal of a bundle.
 fn refused(bundle: &[u8]) -> Refused {
@@ -141,6 +141,43 @@ fn questions_are_refused() {
     assert_eq!(crown().liberal(question(255, ANA)), Err(Refused::NoMethod));
     assert_eq!(crown().strict(no_object), Err(Refused::NoObject));
     assert_eq!(crown().lazy(question(0, 255)), Err(Refused::NotUser));
+}
+
+/// The refusal of a ticket on the crown: method, requestor, members.
+fn ticket_refused(method: u8, requestor: u8, members: &[u8]) -> Refused {
+    let answer = crown().ticket(ticket(method, requestor, members));
+    answer.expect_err("the ticket is refused")
+}
+
+#[test]
+fn tickets_are_refused_in_order() {
+    let mut no_object = ticket(0, CROWN, &[0, 3]);
+    no_object.question.object = 3;
+    assert_eq!(ticket_refused(4, CROWN, &[0, 3]), Refused::NoMethod);
+    assert_eq!(crown().ticket(no_object), Err(Refused::NoObject));
+    assert_eq!(ticket_refused(0, CROWN, &[0, 3]), Refused::NotUser);
+    assert_eq!(ticket_refused(0, BEN, &[0, 1]), Refused::NotEnabled);
+    assert_eq!(ticket_refused(1, BEN, &[1]), Refused::NotConsistent);
+    assert_eq!(ticket_refused(1, ANA, &[1, 2]), Refused::GuardNotMet);
+}
+
+#[test]
+fn members_that_are_no_principals_are_refused() {
+    for member in 3..32 {
+        let refused = Err(Refused::NotEnabled);
+        assert_eq!(crown().ticket(ticket(0, ANA, &[1, 2, member])), refused);
+        assert_eq!(crown().ticket(ticket(2, ANA, &[member])), refused);
+    }
+    let all = Ticket {
+        question: question(0, ANA),
+        set: Set::of_number(u32::MAX),
+    };
+    assert_eq!(crown().ticket(all), Err(Refused::NotEnabled));
+    assert_eq!(Set::of_members([1, 32]), None);
+    assert_eq!(
+        Set::of_members([31, 0, 31]),
+        Some(Set::of_number(0x8000_0001))
+    );
 }
 
 #[test]

@@ -2,7 +2,7 @@
 
 #![allow(dead_code)]
 
-use case_access::{Decision, Edge, Engine, Question};
+use case_access::{Decision, Edge, Engine, Question, Set, Ticket};
 
 pub const CROWN: u8 = 0;
 pub const ANA: u8 = 1;
@@ -29,6 +29,14 @@ pub fn question(method: u8, requestor: u8) -> Question {
         method,
         object: CROWN,
         requestor,
+    }
+}
+
+/// A ticket for a question about the crown, with these members.
+pub fn ticket(method: u8, requestor: u8, members: &[u8]) -> Ticket {
+    Ticket {
+        question: question(method, requestor),
+        set: Set::of_members(members.iter().copied()).expect("members up to 31"),
     }
 }
 
