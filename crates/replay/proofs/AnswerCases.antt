@@ -45,8 +45,15 @@ pub no-answer-case : (r : Record) (f : CallFields) → 2 ≤ f .kind → (f .kin
     → (f .kind ≡ 5 → ⊥) → (f .kind ≡ 6 → ⊥) → numberAnswer r wrongKind ≡ answerTo r (listedCallOf f)
 unfolding answerTo
 no-answer-case r f l g h i j k =
-    rw (ne-eqb (f .kind) 0 (λ e. let x : ⊥ = omega arith in x), ne-eqb (f .kind) 1 (λ e. let x : ⊥ = omega arith in x),
-    ne-eqb (f .kind) 2 g, ne-eqb (f .kind) 3 h, ne-eqb (f .kind) 4 i, ne-eqb (f .kind) 5 j, ne-eqb (f .kind) 6 k)
+    rw (
+      ne-eqb (f .kind) 0 (λ e. let x : ⊥ = omega arith in x),
+      ne-eqb (f .kind) 1 (λ e. let x : ⊥ = omega arith in x),
+      ne-eqb (f .kind) 2 g,
+      ne-eqb (f .kind) 3 h,
+      ne-eqb (f .kind) 4 i,
+      ne-eqb (f .kind) 5 j,
+      ne-eqb (f .kind) 6 k,
+    )
 
 -- a decision that leaves the memo as it is leaves the record
 pub stays : (r : Record) (n : ℕ) {s set : ℕ} {m : Memo} → s ≡ set → m ≡ r .memo
