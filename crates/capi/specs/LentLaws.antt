@@ -6,9 +6,10 @@ use mathlib.Core.List.{List, [], _∷_}
 use native.Mathlib.Omega.{arith}
 use Rattle.policy.specs.declared.Record.{Record}
 use Rattle.reading.specs.Loading.{load}
-use Rattle.history.specs.Book.{Call, engineAfter}
+use Rattle.tickets.specs.declared.Ticket.{Ticket}
+use Rattle.history.specs.Book.{Call, checkTicket, engineAfter}
 use Rattle.replay.specs.Replay.{call, listedCallAt, bufferAfter}
-use Rattle.replay.specs.ReplayLaws.{callsBefore}
+use Rattle.replay.specs.ReplayLaws.{callsBefore, tickets-leave}
 use Rattle.replay.specs.Parts.{Part, leftAfterParts, partsCalls, partsCount, PointHolds}
 use Rattle.replay.specs.PartLaws.{parts-hold}
 use Rattle.capi.specs.Lent.{loadValue, Answers}
@@ -46,3 +47,9 @@ lent-holds text e ps left h =
           let buffer = a .buffer ∙ ap (λ (x : Record). bufferAfter x (p .calls) (p .buffer)) same in
           subst (PointHolds text (loaded text e) ps p i c) (sym buffer) (all .next p i (subst (λ (n : ℕ). i < n) (a .count) l) c f);
     }
+
+-- an `access_answer` of tickets alone leaves the caller's record as it was, memo included
+pub lent-tickets : {r left : Record} {calls before after : List ℕ} {n : ℕ} → Answers r calls before n left after
+    → ((i : ℕ) → i < n → (t : Ticket) × (listedCallAt calls i ≡ call (checkTicket t))) → left ≡ r
+lent-tickets {r} {calls = calls} a all =
+    a .rules ∙ tickets-leave r calls _ (λ i l. all i (subst (λ (k : ℕ). i < k) (sym (a .count)) l))

@@ -1,10 +1,12 @@
 -- What replaying has to do with demand 3: its calls are a list of calls, between which predicates and unknown kinds change
 -- nothing.
-use Prim.Native.Nat.{ℕ, zero, suc}
+use Prim.Native.Nat.{ℕ, zero, suc, _<_}
 use mathlib.Core.Path.{_≡_, refl, sym, _∙_, ap, subst}
 use mathlib.Core.List.{List, [], _∷_, _++_}
+use native.Mathlib.Omega.{arith}
 use Rattle.policy.specs.declared.Record.{Record}
 use Rattle.reading.specs.Loading.{load}
+use Rattle.tickets.specs.declared.Ticket.{Ticket}
 use Rattle.history.specs.Book.{Call, add, remove, askEagerly, askLazily, checkTicket, Book, plain, firstBook}
 use Rattle.history.specs.Book.{bookAfterCall, bookAnswer, bookAfter, numberAndSet, engineLeaves, engineAfter}
 use Rattle.history.specs.Agrees.{Agrees}
@@ -50,6 +52,15 @@ left-is r calls (suc n) =
     leaves (leftAfter r calls n) (listedCallAt calls n)
     ∙ ap (λ (x : Record). engineAfter x (bookCallsOf (listedCallAt calls n))) (left-is r calls n)
     ∙ sym (after-append r (callsBefore calls n) (bookCallsOf (listedCallAt calls n)))
+
+-- tickets alone leave the record, memo included
+pub tickets-leave : (r : Record) (calls : List ℕ) (n : ℕ)
+    → ((i : ℕ) → i < n → (t : Ticket) × (listedCallAt calls i ≡ call (checkTicket t))) → leftAfter r calls n ≡ r
+unfolding leftAfter answerTo
+tickets-leave r calls zero all = refl
+tickets-leave r calls (suc n) all =
+    let (t, e) = all n (omega arith) in
+    ap (λ (x : ListedCall). answerTo (leftAfter r calls n) x .rules) e ∙ tickets-leave r calls n (λ i l. all i (omega arith))
 
 -- the record agrees the book past a list of calls
 list-agrees : (b : Record) (cs : List Call) (book : Book) (r : Record) → Agrees b book r → Agrees b (bookAfter b book cs) (engineAfter r cs)
