@@ -18,12 +18,15 @@ const STEPS: usize = 100000;
 
 // The command that a character opens, whose octets stand at an offset.
 fn command_at(text: &[u8], opening: u8, offset: usize) -> Command {
+    let a = octets::octet_at(text, offset, 1);
+    let b = octets::octet_at(text, offset, 2);
     Command {
         opening,
         code: octets::octet_at(text, offset, 0),
-        a: octets::octet_at(text, offset, 1),
-        b: octets::octet_at(text, offset, 2),
+        a,
+        b,
         c: octets::octet_at(text, offset, 3),
+        ab: (a as usize) * 256 + (b as usize),
     }
 }
 
@@ -35,11 +38,12 @@ fn changed(loaded: Record, rules: Record, q: Command) -> Record {
     }
     let code = q.code;
     match code {
-        0 => loaded,
-        1 => policy::blank(),
-        2 => record_columns::full_graph(rules),
-        _ => record_columns::with_number(rules, code, (q.a as usize) * 256 + (q.b as usize), q.c),
+        0 => return loaded,
+        1 => return policy::blank(),
+        2 => return record_columns::full_graph(rules),
+        _ => {}
     }
+    record_columns::with_number(rules, code, q.ab, q.c)
 }
 
 // ---- what is printed
@@ -136,7 +140,7 @@ pub fn play(text: &[u8], from: usize, loaded: Record) {
         let q = command_at(text, opening, after);
         let next = changed(loaded, rules, q);
         rules = next;
-        let says = after_call(said, loaded, rules, q);
+        let says = after_call(said, rules, q);
         said = says;
         printed(said, q);
         let place = place_after(opening, after, back);

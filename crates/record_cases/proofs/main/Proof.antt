@@ -9,39 +9,39 @@ use Rattle.io.proofs.read_full.Reads as read-full-reads
 use Rattle.bundle.proofs.load.Reads as load-reads
 use Rattle.record_cases.proofs.script.play.Reads as play-reads
 
--- src/main.rt:12:30
+-- src/main.rt:14:30
 slice-aggregate-read-full : tie.Need-slice-aggregate-read-full
 slice-aggregate-read-full c = search needs
 
--- src/main.rt:12:9
+-- src/main.rt:14:9
 read-full-requires : tie.Need-read-full-requires
 read-full-requires c κs = search needs
 
--- src/main.rt:13:31
+-- src/main.rt:15:31
 array-share-prefix-input : tie.Need-array-share-prefix-input
 array-share-prefix-input c = search needs
 
--- src/main.rt:13:31
+-- src/main.rt:15:31
 slice-aggregate-load : tie.Need-slice-aggregate-load
 slice-aggregate-load c = sym (length-take-le 382 (c .before .before .read-full .last .1 .0) (array-share-prefix-input (c .before)))
 
--- src/main.rt:13:9
+-- src/main.rt:15:9
 load-requires : tie.Need-load-requires
 load-requires c κs = search needs
 
--- src/main.rt:14:18
+-- src/main.rt:16:18
 array-share-prefix-input-2 : tie.Need-array-share-prefix-input-2
 array-share-prefix-input-2 c = search needs
 
--- src/main.rt:14:18
+-- src/main.rt:16:18
 slice-aggregate-play : tie.Need-slice-aggregate-play
 slice-aggregate-play c = search needs
 
--- src/main.rt:14:5
+-- src/main.rt:16:5
 play-requires : tie.Need-play-requires
 play-requires c κs = search needs
 
--- src/main.rt:10:1
+-- src/main.rt:12:1
 returns : tie.Need-returns
 returns c = search needs
 

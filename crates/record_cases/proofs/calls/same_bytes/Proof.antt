@@ -12,31 +12,31 @@ Inv-loop a b same₀ i₀ same i = i ≤ 2048
 abbrev μ-loop : tie.MeasureT-loop
 μ-loop a b same₀ i₀ same i = 2048 - i
 
--- src/calls.rt:66:5
+-- src/calls.rt:70:5
 loop-holds : tie.Need-loop-holds Inv-loop μ-loop
 loop-holds c = search needs
 
--- src/calls.rt:67:24
+-- src/calls.rt:71:24
 array-read-same : tie.Need-array-read-same Inv-loop μ-loop
 array-read-same c = search needs
 
--- src/calls.rt:67:32
+-- src/calls.rt:71:32
 array-read-same-2 : tie.Need-array-read-same-2 Inv-loop μ-loop
 array-read-same-2 c = search needs
 
--- src/calls.rt:68:9
+-- src/calls.rt:72:9
 add-i : tie.Need-add-i Inv-loop μ-loop
 add-i c = search needs
 
--- src/calls.rt:66:5
+-- src/calls.rt:70:5
 loop-less : tie.Need-loop-less Inv-loop μ-loop
 loop-less c = search needs
 
--- src/calls.rt:66:5
+-- src/calls.rt:70:5
 loop-again : tie.Need-loop-again Inv-loop μ-loop
 loop-again c = search needs
 
--- src/calls.rt:63:1
+-- src/calls.rt:67:1
 returns : tie.Need-returns Inv-loop μ-loop
 returns c = search needs
 

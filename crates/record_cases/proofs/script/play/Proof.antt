@@ -18,59 +18,59 @@ Inv-loop text from loaded rules₀ said₀ i₀ back₀ steps₀ rules said i ba
 abbrev μ-loop : tie.MeasureT-loop
 μ-loop text from loaded rules₀ said₀ i₀ back₀ steps₀ rules said i back steps = 100000 - steps
 
--- src/script.rt:109:15
+-- src/script.rt:126:15
 emptied-requires : tie.Need-emptied-requires Inv-loop μ-loop
 emptied-requires c κs = search needs
 
--- src/script.rt:117:5
+-- src/script.rt:134:5
 loop-holds : tie.Need-loop-holds Inv-loop μ-loop
 loop-holds c = search needs
 
--- src/script.rt:119:13
+-- src/script.rt:136:13
 returns : tie.Need-returns Inv-loop μ-loop
 returns c = search needs
 
--- src/script.rt:121:23
+-- src/script.rt:138:23
 shared-slice-read-opening : tie.Need-shared-slice-read-opening Inv-loop μ-loop
 shared-slice-read-opening c = search needs
 
--- src/script.rt:122:21
+-- src/script.rt:139:21
 add-after : tie.Need-add-after Inv-loop μ-loop
 add-after c = search needs
 
--- src/script.rt:123:13
+-- src/script.rt:140:13
 command-at-requires : tie.Need-command-at-requires Inv-loop μ-loop
 command-at-requires c κs = search needs
 
--- src/script.rt:124:13
+-- src/script.rt:141:13
 changed-requires : tie.Need-changed-requires Inv-loop μ-loop
 changed-requires c κs = search needs
 
--- src/script.rt:126:13
+-- src/script.rt:143:13
 after-call-requires : tie.Need-after-call-requires Inv-loop μ-loop
 after-call-requires c κs = search needs
 
--- src/script.rt:128:9
+-- src/script.rt:145:9
 printed-requires : tie.Need-printed-requires Inv-loop μ-loop
 printed-requires c κs = search needs
 
--- src/script.rt:129:13
+-- src/script.rt:146:13
 place-after-requires : tie.Need-place-after-requires Inv-loop μ-loop
 place-after-requires c κs = search needs
 
--- src/script.rt:132:9
+-- src/script.rt:149:9
 add-steps : tie.Need-add-steps Inv-loop μ-loop
 add-steps c = search needs
 
--- src/script.rt:117:5
+-- src/script.rt:134:5
 loop-less : tie.Need-loop-less Inv-loop μ-loop
 loop-less c = search needs
 
--- src/script.rt:117:5
+-- src/script.rt:134:5
 loop-again : tie.Need-loop-again Inv-loop μ-loop
 loop-again c = search needs
 
--- src/script.rt:102:1
+-- src/script.rt:119:1
 returns-2 : tie.Need-returns-2 Inv-loop μ-loop
 returns-2 c = search needs
 
