@@ -1,7 +1,7 @@
 -- Demand 3, word by word. A record just loaded from a bundle, and any list of edge additions, edge removals, eager and lazy
--- questions and tickets, refused ones included: each call gets the record that the calls before it left. Beside the engine goes the edge book,
--- which starts with the text's edge lines and is given the bundle's record and each call's kind and arguments, and nothing that the
--- engine answers or holds.
+-- questions and tickets, refused ones included: each call gets the record that the calls before it left. Beside the engine goes
+-- the edge book, which starts with the text's edge lines and is given the bundle's record and each call's kind and arguments, and
+-- nothing that the engine answers or holds.
 use Prim.Native.Nat.{ℕ, _≤_, _<_}
 use mathlib.Core.Path.{_≡_}
 use mathlib.Core.Logic.{_↔_, _≢_}
