@@ -528,11 +528,51 @@ static void read_input(const uint8_t *data, size_t size)
     bundle_read(&bundle, input.text);
 }
 
-/* Puts the input together, now and then with a damaged text. */
+/* Puts the two digits of an octet. */
+static void put_octet(uint8_t *text, uint8_t octet)
+{
+    static const char digits[] = "0123456789ABCDEF";
+
+    text[0] = (uint8_t)digits[octet >> 4], text[1] = (uint8_t)digits[octet & 15];
+}
+
+/* So many octets more for a line; 256 are more than its length octet can say, though that is right modulo 256. */
+static unsigned some_octets(void)
+{
+    return one_in(3) ? 256 : 1 + below(one_in(2) ? 16 : 400);
+}
+
+/* Lengthens a line of the text and seals it, now and then with any character in it; returns the size. Without room nothing happens. */
+static size_t lengthen(uint8_t *text, size_t size, size_t room)
+{
+    size_t place = below((unsigned)bundle.count), at = 0, more = some_octets(), i;
+    const struct line *line = &bundle.lines[place];
+    uint8_t fill = one_in(2) ? 0 : (uint8_t)random_any(), check = 0, *end;
+
+    for (i = 0; i < place; i++)
+        at += 2 * bundle.lines[i].count + 1;
+    if (bundle.count == 0 || size + 2 * more > room || at + 2 * line->count >= size)
+        return size;
+    end = text + at + 2 * (line->count - 1);
+    memmove(end + 2 * more, end, size - (size_t)(end - text));
+    for (i = 0; i < more; i++)
+        put_octet(end + 2 * i, fill), check -= fill;
+    for (i = 1; i + 1 < line->count; i++)
+        check -= line->octets[i];
+    put_octet(text + at, (uint8_t)(line->count - 3 + more));
+    put_octet(end + 2 * more, check - (uint8_t)(line->count - 3 + more));
+    if (one_in(3))
+        text[at + below((unsigned)(2 * (line->count + more)))] = (uint8_t)random_any();
+    return size + 2 * more;
+}
+
+/* Puts the input together, now and then with a lengthened line or a damaged text. */
 static size_t write_input(uint8_t *data, size_t max_size)
 {
     size_t size = input_join(data, max_size, (struct slice){calls, calls_length}, &bundle), text = COUNT + calls_length;
 
+    if (one_in(40) && size > text)
+        size = text + lengthen(data + text, size - text, max_size - text);
     if (one_in(25) && size > text)
         size = text + LLVMFuzzerMutate(data + text, size - text, max_size - text);
     if (one_in(80) && size > text)

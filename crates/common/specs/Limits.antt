@@ -59,3 +59,7 @@ greatestHeight = 8
 abbrev pub mostLines : ℕ
 mostLines =
     1 + mostUsers + mostEdges + mostFormulas + mostDemarcations + mostPairs + mostPrincipals + mostExclusions + mostPairs + mostMethods
+
+-- room for the octets of a line of any kind that a bundle may have
+abbrev pub lineRoom : ℕ
+lineRoom = 16

@@ -21,6 +21,17 @@ drop-two s i l =
     let e : i + 1 + 1 ≡ i + 2 = omega arith in
     drop-one s i (omega arith) ∙ ap (λ (t : List ℕ). at s i ∷ t) (drop-one s (i + 1) l ∙ ap (λ (k : ℕ). at s (i + 1) ∷ drop k s) e)
 
+-- the numbers of a list that another follows, and those of one that zeros follow
+pub append-at : (l m : List ℕ) (k : ℕ) → k < length l → at (l ++ m) k ≡ at l k
+append-at [] m k h = let z : ⊥ = omega arith in absurd z
+append-at (x ∷ l) m zero h = refl
+append-at (x ∷ l) m (suc k) h = append-at l m k (omega arith)
+
+pub zeros-at : (l m : List ℕ) → ((j : ℕ) → at m j ≡ 0) → (k : ℕ) → at (l ++ m) k ≡ at l k
+zeros-at [] m h k = h k
+zeros-at (x ∷ l) m h zero = refl
+zeros-at (x ∷ l) m h (suc k) = zeros-at l m h k
+
 module _ {A : Type 0} (p : A → Bool) where
   pub any-append : (l m : List A) → any p (l ++ m) ≡ (any p l || any p m)
   any-append [] m = refl
@@ -71,6 +82,11 @@ pub table-at : {A : Type 0} (n : ℕ) (f : ℕ → A) (i : ℕ) (d : A) → i < 
 table-at zero f i d h = let z : ⊥ = omega arith in absurd z
 table-at {A} (suc n) f zero d h = ap (λ (l : List A). getD l 0 d) (table-cons n f)
 table-at {A} (suc n) f (suc i) d h = ap (λ (l : List A). getD l (suc i) d) (table-cons n f) ∙ table-at n (λ i. f (suc i)) i d (omega arith)
+
+-- tables of the same rows
+pub table-same : {A : Type 0} (n : ℕ) (f g : ℕ → A) → ((i : ℕ) → i < n → f i ≡ g i) → table n f ≡ table n g
+table-same zero f g h = refl
+table-same (suc n) f g h = λ t. table-same n f g (λ i l. h i (omega arith)) t ++ (h n (omega arith) t ∷ [])
 
 pub map-table : {A B : Type 0} (g : A → B) (n : ℕ) (f : ℕ → A) → map g (table n f) ≡ table n (λ i. g (f i))
 map-table g zero f = refl

@@ -87,3 +87,6 @@ pub const PRIVILEGE_COUNT: usize = 64;
 
 // A formula's height.
 pub const GREATEST_HEIGHT: u8 = 8;
+
+// The octets of a line of any kind that a bundle may have: the longest, a method's, has 12.
+pub const LINE_ROOM: usize = 16;

@@ -9,13 +9,17 @@ use native.Mathlib.Decide.{decLt}
 use lib.ListN.{length, getD, drop, drop-of-length-le}
 use lib.Dec.{eqb}
 use borrow.Author.Tests.{lt-ltb, le-ltb, eqb-true, eqb-false}
+use Rattle.common.specs.Lists.{at}
+use Rattle.common.specs.ListLaws.{append-at, table-same}
 use Rattle.common.specs.Refusals.{wrongKind}
 use Rattle.octets.specs.Line.{Framed, refused, octets, kindOctet, total, lineOf, frame}
+use Rattle.octets.specs.Number.{number}
+use Rattle.octets.specs.Answers.{HoldsLine}
 use Rattle.octets.specs.LineLaws.{accepted, refused-is}
 use Rattle.octets.specs.WritingLaws.{Octets, octets-of-pairs}
 use Rattle.lines.specs.declared.Next.{Next}
 use Rattle.lines.specs.declared.Next.the-variants.{Other, Refused, Body}
-use Rattle.lines.specs.NextLine.{NextValues, noLine, refusedLine, bodyLine, nextValues, nextIs, nextOf}
+use Rattle.lines.specs.NextLine.{NextValues, noLine, refusedLine, bodyLine, nextValues, nextIs, nextOf, numberAt}
 use Rattle.lines.specs.Judging.{mostLineSum}
 
 -- a line of the kind and size
@@ -27,6 +31,17 @@ pub record FoundLine (text : List ℕ) (offset kind size next sum : ℕ) : Type 
   pub sized : length os ≡ size
   pub follows : next ≡ offset + 2 * length os + 1
   pub summed : sum ≡ total os
+
+-- its octets in a room that they stand first in: one by one, and as numbers
+module _ {text : List ℕ} {offset kind size next sum : ℕ} (f : FoundLine text offset kind size next sum)
+    (before : List ℕ) {after : List ℕ} (h : HoldsLine size (frame (drop offset text)) before after) where
+  pub found-octet : (k : ℕ) → k < size → at after k ≡ at (f .os) k
+  found-octet k l =
+      ap (λ (r : List ℕ). at r k) (h (f .os) (f .framed) (f .sized)) ∙ append-at (f .os) _ k (let s = f .sized in omega arith)
+
+  pub found-number : (k n : ℕ) → k + n ≤ size → numberAt after k n ≡ numberAt (f .os) k n
+  unfolding numberAt
+  found-number k n l = ap number (table-same n _ _ (λ i m. found-octet (k + i) (omega arith)))
 
 total-most : (os : List ℕ) → Octets os → total os ≤ 255 * length os
 total-most [] p = omega arith
@@ -94,6 +109,19 @@ module _ (text : List ℕ) (offset kind size : ℕ) where
       go : Dec (offset < length text) → Stands
       go (yes l) = framed-as l (frame (drop offset text)) refl (rw (lt-ltb offset (length text) l))
       go (no h) = let l : length text ≤ offset = omega arith in past l (rw (le-ltb offset (length text) l))
+
+  -- a framed line
+  pub framed-within :
+      {os : List ℕ} → frame (drop offset text) ≡ octets os → nextOf text offset kind size ≡ nextIs offset kind size (octets os)
+  unfolding nextOf
+  framed-within e = rw (lt-ltb offset (length text) within) (ap (nextIs offset kind size) e)
+    where
+      within : offset < length text
+      within = go (decLt offset (length text))
+        where
+          go : Dec (offset < length text) → offset < length text
+          go (yes l) = l
+          go (no h) = absurd (none-framed (sym (ap frame (drop-of-length-le text (let l : length text ≤ offset = omega arith in l))) ∙ e))
 
   -- another kind, or the text's end
   pub other-kind : nextOf text offset kind size ≡ noLine → {os : List ℕ} → frame (drop offset text) ≡ octets os → kindOctet os ≢ kind

@@ -4,9 +4,8 @@ use mathlib.Core.Path.{_≡_, refl, sym, _∙_, ap}
 use mathlib.Core.Logic.{_≢_}
 use mathlib.Core.Bool.{Bool, true, false, false≢true, cond}
 use mathlib.Core.List.{List}
-use mathlib.Core.Option.{Option, none, some}
+use mathlib.Core.Option.{none, some}
 use native.Mathlib.Omega.{arith}
-use lib.ListN.{drop}
 use lib.Dec.{eqb}
 use borrow.Author.Tests.{eq-eqb, ne-eqb, eqb-true, eqb-false}
 use Rattle.policy.specs.Table.{kindOf}
@@ -16,7 +15,7 @@ use Rattle.lines.specs.declared.Bounds.{Bounds}
 use Rattle.lines.specs.declared.Cursor.{Cursor}
 use Rattle.lines.specs.declared.Judged.{Judged}
 use Rattle.lines.specs.declared.Judged.the-variants.{Other, Refused, Taken}
-use Rattle.lines.specs.NextLine.{noLine, refusedLine, bodyLine, nextOf}
+use Rattle.lines.specs.NextLine.{noLine, refusedLine, bodyLine, nextOf, octetsAt}
 use Rattle.lines.specs.Judging.{rowAt, fieldsOf, heightBy, refusalBy, movedPast}
 use Rattle.lines.specs.Judging.{TakenValues, JudgedValues, notTaken, takenWith, judgedValues, judgedRow, judgedNext, judgedOf}
 use Rattle.lines.proofs.FoundLine.{refused-some, Stands, stands}
@@ -41,6 +40,30 @@ same-judged (Taken v h n c) (Refused k) e = absurd (none-some _ (ap (λ (v : Jud
 same-judged (Taken v h k c) (Taken w i n d) e =
     ap (λ (t : TakenValues). Taken (t .row) (t .height) (t .leastKey) (t .cursor)) (some-same _ _ (ap (λ (v : JudgedValues). v .taken) e))
 
+-- a line of a kind with the numbers w, of which v, h and n were found to be the numbers, the height and what refuses them
+module _ (kind : ℕ) (m : Bounds) (heights : ℕ → ℕ) (further : Cursor) {v w : Row} (q : v ≡ w) {h : ℕ} (u : h ≡ heightBy kind v heights)
+    {n : ℕ} (z : n ≡ refusalBy (kindOf kind) m h v) where
+  abbrev height-found : h ≡ heightBy kind w heights
+  height-found = u ∙ ap (λ (x : Row). heightBy kind x heights) q
+
+  abbrev refusal-found : n ≡ refusalBy (kindOf kind) m (heightBy kind w heights) w
+  refusal-found = z ∙ (λ i. refusalBy (kindOf kind) m (height-found i) (q i))
+
+  pub row-refused : n ≢ 0 → notTaken true n ≡ judgedRow kind m heights further w
+  row-refused ne =
+      rw (ne-eqb (refusalBy (kindOf kind) m (heightBy kind w heights) w) 0 (λ y. ne (refusal-found ∙ y))) (ap (notTaken true) refusal-found)
+
+  pub row-taken : n ≡ 0 → {k : ℕ} → k ≡ key (kindOf kind) (fieldsOf (kindOf kind) v) + 1
+      → takenWith (record { row = v; height = h; leastKey = k; cursor = further }) ≡ judgedRow kind m heights further w
+  row-taken y e =
+      rw (eq-eqb (refusalBy (kindOf kind) m (heightBy kind w heights) w) 0 (sym refusal-found ∙ y))
+      (λ i. takenWith (record {
+        row = q i;
+        height = height-found i;
+        leastKey = (e ∙ ap (λ (x : Row). key (kindOf kind) (fieldsOf (kindOf kind) x) + 1) q) i;
+        cursor = further;
+      }))
+
 -- a line of a kind and size that is held to the bounds m and the heights of formulas before it
 module _ (text : List ℕ) (c : Cursor) (kind size : ℕ) (m : Bounds) (heights : ℕ → ℕ) where
   -- refused: as a line, or by its numbers
@@ -48,7 +71,7 @@ module _ (text : List ℕ) (c : Cursor) (kind size : ℕ) (m : Bounds) (heights 
     as-line : nextOf text (c .offset) kind size ≡ refusedLine n → Refuses n
     by-numbers :
         {following sum : ℕ} → nextOf text (c .offset) kind size ≡ bodyLine following sum
-        → {v : Row} → v ≡ rowAt kind (drop (c .offset) text)
+        → {v : Row} → v ≡ rowAt size (octetsAt text (c .offset))
         → {h : ℕ} → h ≡ heightBy kind v heights → n ≡ refusalBy (kindOf kind) m h v → n ≢ 0 → Refuses n
 
   -- taken: its numbers, its height, the least key that may follow, and the cursor past it
@@ -56,7 +79,7 @@ module _ (text : List ℕ) (c : Cursor) (kind size : ℕ) (m : Bounds) (heights 
     pub following : ℕ
     pub sum : ℕ
     pub found : nextOf text (c .offset) kind size ≡ bodyLine following sum
-    pub row : v ≡ rowAt kind (drop (c .offset) text)
+    pub row : v ≡ rowAt size (octetsAt text (c .offset))
     pub height : h ≡ heightBy kind v heights
     pub passes : refusalBy (kindOf kind) m h v ≡ 0
     pub least : minimumKey ≡ key (kindOf kind) (fieldsOf (kindOf kind) v) + 1
@@ -69,7 +92,7 @@ module _ (text : List ℕ) (c : Cursor) (kind size : ℕ) (m : Bounds) (heights 
 
   -- the line's numbers, its height, and what refuses it
   abbrev row-here : Row
-  row-here = rowAt kind (drop (c .offset) text)
+  row-here = rowAt size (octetsAt text (c .offset))
 
   abbrev height-here : ℕ
   height-here = heightBy kind row-here heights
@@ -87,8 +110,8 @@ module _ (text : List ℕ) (c : Cursor) (kind size : ℕ) (m : Bounds) (heights 
       }
 
   -- a line of the kind
-  of-body : {following sum : ℕ} → nextOf text (c .offset) kind size ≡ bodyLine following sum
-      → judgedOf text c kind size m heights ≡ cond (eqb refusal-here 0) (takenWith (taken-here following sum)) (notTaken true refusal-here)
+  pub of-body : {following sum : ℕ} → nextOf text (c .offset) kind size ≡ bodyLine following sum
+      → judgedOf text c kind size m heights ≡ judgedRow kind m heights (movedPast c kind following sum) row-here
   unfolding judgedOf
   of-body e = ap (judgedNext text c kind size m heights) e
 
@@ -97,24 +120,11 @@ module _ (text : List ℕ) (c : Cursor) (kind size : ℕ) (m : Bounds) (heights 
   unfolding judgedOf
   says-other e = sym (ap (judgedNext text c kind size m heights) e)
 
-  pub says-refused : {n : ℕ} → Refuses n → judgedValues (Refused n) ≡ judgedOf text c kind size m heights
+  pub says-refused : {n : ℕ} → nextOf text (c .offset) kind size ≡ refusedLine n
+      → judgedValues (Refused n) ≡ judgedOf text c kind size m heights
   unfolding judgedOf
-  says-refused {n} (as-line e) =
+  says-refused {n} e =
       sym (ap (judgedNext text c kind size m heights) e ∙ rw (ne-eqb n 0 (refused-some text (c .offset) kind size e)))
-  says-refused {n} (by-numbers e {v} q {h} u z ne) =
-      let w : n ≡ refusal-here = z ∙ ap (λ (x : ℕ). refusalBy (kindOf kind) m x v) u
-      ∙ ap (λ (x : Row). refusalBy (kindOf kind) m (heightBy kind x heights) x) q in
-      sym (of-body e ∙ rw (ne-eqb refusal-here 0 (λ y. ne (w ∙ y))) (ap (notTaken true) (sym w)))
-
-  pub says-taken : {v : Row} {h k : ℕ} {further : Cursor} → Takes v h k further
-      → judgedValues (Taken v h k further) ≡ judgedOf text c kind size m heights
-  says-taken {v} {h} {k} {further} t =
-      let u : h ≡ height-here = t .height ∙ ap (λ (x : Row). heightBy kind x heights) (t .row) in
-      let w : refusal-here ≡ 0 = sym (λ i. refusalBy (kindOf kind) m (u i) (t .row i)) ∙ t .passes in
-      let y : k ≡ key (kindOf kind) (fieldsOf (kindOf kind) row-here) + 1 = t .least
-      ∙ ap (λ (x : Row). key (kindOf kind) (fieldsOf (kindOf kind) x) + 1) (t .row) in
-      (λ i. takenWith (record { row = t .row i; height = u i; leastKey = y i; cursor = t .moved i }))
-      ∙ sym (of-body (t .found) ∙ rw (eq-eqb refusal-here 0 w))
 
   -- and what has the number and values of an answer says so
   values-say : (r : Judged) → judgedValues r ≡ judgedOf text c kind size m heights → Judges r
@@ -165,9 +175,9 @@ module _ (text : List ℕ) (c : Cursor) (kind size : ℕ) (m : Bounds) (heights 
 
       go : Stands text (c .offset) kind size → (r : Judged) → judgedValues r ≡ judgedOf text c kind size m heights → Judges r
       go (past l f) r e = none-here f r (e ∙ sym (says-other f))
-      go (not-framed l g f) r e = refused-here f r (e ∙ sym (says-refused (as-line f)))
+      go (not-framed l g f) r e = refused-here f r (e ∙ sym (says-refused f))
       go (of-another-kind l g h f) r e = none-here f r (e ∙ sym (says-other f))
-      go (of-another-size l g o d f) r e = refused-here f r (e ∙ sym (says-refused (as-line f)))
+      go (of-another-size l g o d f) r e = refused-here f r (e ∙ sym (says-refused f))
       go (of-the-kind l g o d f) r e = own f (eqb refusal-here 0) refl r (e ∙ of-body f)
 
   module _ {r : Judged} (e : judgedValues r ≡ judgedOf text c kind size m heights) where

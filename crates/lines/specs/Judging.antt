@@ -1,15 +1,13 @@
 -- A line of any kind that has a table, by the numbers that its body may hold (`Row`): what refuses it, and what comes after it.
-use Prim.Native.Nat.{ℕ, _+_, _*_, _≤_, _<_}
+use Prim.Native.Nat.{ℕ, _+_, _-_, _*_, _≤_, _<_}
 use mathlib.Core.Path.{_≡_}
 use mathlib.Core.Bool.{Bool, true, false, not, cond, _&&_}
 use mathlib.Core.List.{List, [], _∷_}
 use mathlib.Core.Option.{Option, none, some}
-use lib.ListN.{drop}
 use lib.Dec.{ltb, leb, eqb}
 use Rattle.common.specs.Lists.{at}
 use Rattle.common.specs.Limits.{mostEdges, mostFormulas, mostDemarcations, mostPrincipals, mostMethods, mostLines}
 use Rattle.common.specs.Causes.{first}
-use Rattle.octets.specs.Answers.{octetAt}
 use Rattle.policy.specs.Table.{Kind, code, kindOf}
 use Rattle.policy.specs.Table.{head, user, edge, formula, demarcation, hierarchy, principal, exclusion, prerequisite, method, end}
 use Rattle.policy.specs.Rows.{key}
@@ -20,7 +18,7 @@ use Rattle.lines.specs.declared.Bounds.{Bounds}
 use Rattle.lines.specs.declared.Cursor.{Cursor}
 use Rattle.lines.specs.declared.Judged.{Judged}
 use Rattle.lines.specs.declared.Judged.the-variants.{Other, Refused, Taken}
-use Rattle.lines.specs.NextLine.{NextValues, nextOf, numberAt}
+use Rattle.lines.specs.NextLine.{NextValues, nextOf, octetsAt, numberAt}
 
 -- a kind octet between the head's and the end's
 pub record TableKind (kind : ℕ) : Type 0 where
@@ -28,17 +26,18 @@ pub record TableKind (kind : ℕ) : Type 0 where
   pub high : kind < 0xFF
   pub known : code (kindOf kind) ≡ kind
 
--- ---- the numbers of the line of a kind that a text starts with
+-- ---- the numbers of a line of so many octets
 
-abbrev pub wideAt : ℕ → List ℕ → ℕ
-wideAt kind t = cond (eqb kind (code demarcation)) (numberAt t 2 8) (cond (eqb kind (code method)) (numberAt t 3 8) 0)
-
--- three octets up to the formulas' kind, two and perhaps a number of eight octets after it
+-- the body's first three octets, the second and third as one number, and the eight octets before the check octet of a line with so many
 abbrev pub rowAt : ℕ → List ℕ → Row
-rowAt kind t =
-    cond (leb kind (code formula))
-    (record { a = octetAt t 2; b = octetAt t 3; c = octetAt t 4; roles = octetAt t 3 * 256 + octetAt t 4; wide = 0 })
-    (record { a = octetAt t 2; b = octetAt t 3; c = 0; roles = 0; wide = wideAt kind t })
+rowAt size os =
+    record {
+      a = at os 2;
+      b = at os 3;
+      c = at os 4;
+      roles = at os 3 * 256 + at os 4;
+      wide = cond (ltb 10 size) (numberAt os (size - 9) 8) 0;
+    }
 
 -- as the numbers of the kind's body
 abbrev pub fieldsOf : Kind → Row → List ℕ
@@ -126,24 +125,24 @@ judgedValues Other = notTaken false 0
 judgedValues (Refused k) = notTaken true k
 judgedValues (Taken row height leastKey cursor) = takenWith (record { row = row; height = height; leastKey = leastKey; cursor = cursor })
 
--- of the line at a cursor, as one of a kind and size that is held to the bounds m and the heights of the formulas before it
-module _ (text : List ℕ) (c : Cursor) (kind size : ℕ) (m : Bounds) (heights : ℕ → ℕ) where
-  -- a line of the kind, by its numbers v and its height h
-  abbrev pub judgedRow : NextValues → Row → ℕ → JudgedValues
-  judgedRow line v h =
-      cond (eqb (refusalBy (kindOf kind) m h v) 0)
-      (takenWith (record {
-        row = v;
-        height = h;
-        leastKey = key (kindOf kind) (fieldsOf (kindOf kind) v) + 1;
-        cursor = movedPast c kind (line .next) (line .total);
-      }))
-      (notTaken true (refusalBy (kindOf kind) m h v))
+-- of a line of a kind with the numbers v, held to the bounds m and the heights of the formulas before it; the cursor past it
+abbrev pub judgedRow : ℕ → Bounds → (ℕ → ℕ) → Cursor → Row → JudgedValues
+judgedRow kind m heights further v =
+    cond (eqb (refusalBy (kindOf kind) m (heightBy kind v heights) v) 0)
+    (takenWith (record {
+      row = v;
+      height = heightBy kind v heights;
+      leastKey = key (kindOf kind) (fieldsOf (kindOf kind) v) + 1;
+      cursor = further;
+    }))
+    (notTaken true (refusalBy (kindOf kind) m (heightBy kind v heights) v))
 
+-- of the line at a cursor, as one of a kind and size
+module _ (text : List ℕ) (c : Cursor) (kind size : ℕ) (m : Bounds) (heights : ℕ → ℕ) where
   abbrev pub judgedNext : NextValues → JudgedValues
   judgedNext line =
       cond (line .read && eqb (line .number) 0)
-      (judgedRow line (rowAt kind (drop (c .offset) text)) (heightBy kind (rowAt kind (drop (c .offset) text)) heights))
+      (judgedRow kind m heights (movedPast c kind (line .next) (line .total)) (rowAt size (octetsAt text (c .offset))))
       (notTaken (line .read) (line .number))
 
   unfoldable pub judgedOf : JudgedValues

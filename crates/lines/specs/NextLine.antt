@@ -1,13 +1,12 @@
 -- What stands at an offset of a text, for a reader of lines of one kind, and the numbers there.
 use Prim.Native.Nat.{ℕ, _+_, _*_}
 use mathlib.Core.Bool.{Bool, true, false, cond}
-use mathlib.Core.List.{List}
+use mathlib.Core.List.{List, []}
 use lib.ListN.{length, drop}
 use lib.Dec.{ltb, eqb}
-use Rattle.common.specs.Lists.{table}
+use Rattle.common.specs.Lists.{at, table}
 use Rattle.common.specs.Refusals.{wrongKind}
 use Rattle.octets.specs.Line.{Framed, refused, octets, kindOctet, total, frame}
-use Rattle.octets.specs.Answers.{octetAt}
 use Rattle.octets.specs.Number.{number}
 use Rattle.lines.specs.declared.Next.{Next}
 use Rattle.lines.specs.declared.Next.the-variants.{Other, Refused, Body}
@@ -49,6 +48,23 @@ nextIs offset kind size (octets os) =
 unfoldable pub nextOf : List ℕ → ℕ → ℕ → ℕ → NextValues
 nextOf text offset kind size = cond (ltb offset (length text)) (nextIs offset kind size (frame (drop offset text))) noLine
 
--- the number that n pairs of digits of a text make, from the k-th pair on
+-- what refuses a line that is not of a kind and its size: 1, 2 or 3, or, being of the kind, 4; 0 of one that is left to another reader
+abbrev pub otherIs : ℕ → Framed → ℕ
+otherIs kind (refused k) = k
+otherIs kind (octets os) = cond (eqb (kindOctet os) kind) wrongKind 0
+
+-- of what stands at an offset of a text
+unfoldable pub otherRefusal : List ℕ → ℕ → ℕ → ℕ
+otherRefusal text offset kind = cond (ltb offset (length text)) (otherIs kind (frame (drop offset text))) 0
+
+-- the octets of a framed line, and of the line at an offset of a text
+abbrev pub octetsIn : Framed → List ℕ
+octetsIn (refused k) = []
+octetsIn (octets os) = os
+
+abbrev pub octetsAt : List ℕ → ℕ → List ℕ
+octetsAt text offset = octetsIn (frame (drop offset text))
+
+-- the number that n octets make, from the k-th on
 unfoldable pub numberAt : List ℕ → ℕ → ℕ → ℕ
-numberAt t k n = number (table n (λ i. octetAt t (k + i)))
+numberAt os k n = number (table n (λ i. at os (k + i)))

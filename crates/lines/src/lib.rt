@@ -1,16 +1,22 @@
 // One line of a bundle, for a reader of lines of one kind: what stands at an offset, its numbers, what refuses them, the cursor past it.
 
 ghost use mathlib.Core.Path.{_≡_};
-ghost use Prim.Native.Nat.{_+_, _*_, _≤_};
+ghost use Prim.Native.Nat.{_+_, _*_, _≤_, _<_};
 ghost use lib.ListN.{drop};
 ghost use Rattle.common.specs.Lists.{at};
+ghost use Rattle.common.specs.Limits.{lineRoom};
+ghost use Rattle.octets.specs.Line.{frame};
+ghost use Rattle.octets.specs.Answers.{RoomFor, HoldsLine};
+ghost use Rattle.octets.specs.DigitTable.{IsDigitTable};
 ghost use Rattle.policy.specs.Table.{kindOf};
 ghost use Rattle.policy.specs.Rows.{key};
-ghost use Rattle.lines.specs.NextLine.{nextValues, nextOf, numberAt};
-ghost use Rattle.lines.specs.Judging.{TableKind, wideAt, rowAt, fieldsOf, heightBy, refusalBy, HeightsLow};
-ghost use Rattle.lines.specs.Judging.{mostLineSum, CursorBound, movedPast, judgedValues, judgedOf};
+ghost use Rattle.lines.specs.NextLine.{nextValues, nextOf, otherRefusal, numberAt};
+ghost use Rattle.lines.specs.Judging.{TableKind, rowAt, fieldsOf, heightBy, refusalBy, HeightsLow};
+ghost use Rattle.lines.specs.Judging.{mostLineSum, CursorBound, movedPast, judgedValues, judgedRow, judgedOf};
+use common::LINE_ROOM;
 use common::MOST_FORMULAS;
 use octets::Line;
+use octets::SizedLine;
 
 // ---- what stands at an offset
 
@@ -24,39 +30,79 @@ pub enum Next {
     Body { next: usize, total: usize },
 }
 
-// Reads the line at an offset as one of a kind, whose lines have so many octets.
-pub fn next_line(text: &[u8], offset: usize, kind: u8, size: usize) -> Next
-    ensures { λ r. ⌜ nextValues r ≡ nextOf (now (text .entry)) offset kind size ⌝ }
+// The number that refuses a line which is not of a kind and size (1, 2, 3, or, being of this kind, 4); 0 for the text's end or a line
+// of another kind.
+fn other_refusal(text: &[u8], offset: usize, kind: u8) -> u8
+    ensures { λ r. ⌜ r ≡ otherRefusal (now (text .entry)) offset kind ⌝ }
 {
     if text.len() <= offset {
-        return Next::Other;
+        return 0;
     }
     match octets::read_line(text, offset) {
-        Line::Refused(number) => Next::Refused(number),
-        Line::Octets { count, next, total } => {
+        Line::Refused(number) => number,
+        Line::Octets {
+            count: _,
+            next: _,
+            total: _,
+        } => {
             if octets::octet_at(text, offset, 1) != kind {
+                return 0;
+            }
+            common::WRONG_KIND
+        }
+    }
+}
+
+// Reads the line at an offset as one of a kind, whose lines have so many octets, and puts them into a room for them.
+pub fn next_line(
+    text: &[u8],
+    offset: usize,
+    kind: u8,
+    size: usize,
+    digits: &[u8; 256],
+    octets: &mut [u8; LINE_ROOM],
+) -> Next
+    requires { ⌜ IsDigitTable (now digits) × RoomFor size (now octets) ⌝ }
+    ensures line { λ r. ⌜ nextValues r ≡ nextOf (now (text .entry)) offset kind size ⌝ }
+    ensures octets { λ _. ⌜ HoldsLine size (frame (drop offset (now (text .entry)))) (now (octets .entry)) (now (octets .exit)) ⌝ }
+{
+    match octets::sized_line(text, offset, size, digits, octets) {
+        SizedLine::Other => {
+            let number = other_refusal(text, offset, kind);
+            if number != 0 {
+                return Next::Refused(number);
+            }
+            Next::Other
+        }
+        SizedLine::Octets { total } => {
+            if octets[1] != kind {
                 return Next::Other;
             }
-            if count != size {
-                return Next::Refused(common::WRONG_KIND);
-            }
             Next::Body {
-                next: next,
+                next: offset + 2 * size + 1,
                 total: total,
             }
         }
     }
 }
 
-// The number that n octets of the line at an offset make, from the k-th on, the high octet first.
-pub fn number_at(text: &[u8], offset: usize, k: usize, n: usize) -> u64
-    requires { ⌜ (n ≤ 8) × (k ≤ 256) ⌝ }
-    ensures { λ r. ⌜ r ≡ numberAt (drop offset (now (text .entry))) k n ⌝ }
+// The k-th octet in a room for a line's octets.
+fn octet_in(octets: &[u8; LINE_ROOM], k: usize) -> u8
+    requires { ⌜ k < lineRoom ⌝ }
+    ensures { λ r. ⌜ r ≡ at (now (octets .entry)) k ⌝ }
+{
+    octets[k]
+}
+
+// The number that n octets of a line make, from the k-th on, the high octet first.
+pub fn number_at(octets: &[u8; LINE_ROOM], k: usize, n: usize) -> u64
+    requires { ⌜ (n ≤ 8) × (k + n ≤ lineRoom) ⌝ }
+    ensures { λ r. ⌜ r ≡ numberAt (now (octets .entry)) k n ⌝ }
 {
     let mut value: u64 = 0;
     let mut i = 0;
     while i < n {
-        let o = octets::octet_at(text, offset, k + i);
+        let o = octet_in(octets, k + i);
         value = value * 256 + (o as u64);
         i += 1;
     }
@@ -82,42 +128,24 @@ fn two_octets(high: u8, low: u8) -> u16
     (high as u16) * 256 + (low as u16)
 }
 
-// The number of eight octets of a line of a kind from 05 on; 0 where the kind has none.
-fn wide_at(text: &[u8], offset: usize, kind: u8) -> u64
-    ensures { λ r. ⌜ r ≡ wideAt kind (drop offset (now (text .entry))) ⌝ }
+// The numbers of a line of so many octets. A line with a number of eight octets has 11 or more, and it stands last before the check octet.
+fn row_at(octets: &[u8; LINE_ROOM], size: usize) -> Row
+    requires { ⌜ size ≤ lineRoom ⌝ }
+    ensures { λ r. ⌜ r ≡ rowAt size (now (octets .entry)) ⌝ }
 {
-    if kind == 0x05 {
-        return number_at(text, offset, 2, 8);
+    let mut wide: u64 = 0;
+    if 10 < size {
+        wide = number_at(octets, size - 9, 8);
     }
-    if kind == 0x0A {
-        return number_at(text, offset, 3, 8);
-    }
-    0
-}
-
-// The numbers of the line of a kind at an offset. The third octet is read only where the kind has one: octets are most of loading's work.
-fn row_at(text: &[u8], offset: usize, kind: u8) -> Row
-    ensures { λ r. ⌜ r ≡ rowAt kind (drop offset (now (text .entry))) ⌝ }
-{
-    let a = octets::octet_at(text, offset, 2);
-    let b = octets::octet_at(text, offset, 3);
-    if kind <= 0x04 {
-        let c = octets::octet_at(text, offset, 4);
-        let roles = two_octets(b, c);
-        return Row {
-            a: a,
-            b: b,
-            c: c,
-            roles: roles,
-            wide: 0,
-        };
-    }
-    let wide = wide_at(text, offset, kind);
+    let a = octet_in(octets, 2);
+    let b = octet_in(octets, 3);
+    let c = octet_in(octets, 4);
+    let roles = two_octets(b, c);
     Row {
         a: a,
         b: b,
-        c: 0,
-        roles: 0,
+        c: c,
+        roles: roles,
         wide: wide,
     }
 }
@@ -224,6 +252,33 @@ pub enum Judged {
     },
 }
 
+// What is made of a line of a kind by its octets: refused by its numbers, or taken, with the cursor past it.
+fn judged_octets(
+    kind: u8,
+    size: usize,
+    bounds: Bounds,
+    heights: &[u8; MOST_FORMULAS],
+    octets: &[u8; LINE_ROOM],
+    further: Cursor,
+) -> Judged
+    requires { ⌜ TableKind kind × HeightsLow kind (now heights) × (size ≤ lineRoom) ⌝ }
+    ensures { λ r. ⌜ judgedValues r ≡ judgedRow kind bounds (at (now (heights .entry))) further (rowAt size (now (octets .entry))) ⌝ }
+{
+    let row = row_at(octets, size);
+    let height = height_of(kind, row, heights);
+    let number = row_refusal(kind, bounds, height, row);
+    if number != 0 {
+        return Judged::Refused(number);
+    }
+    let least_key = after_row(kind, row);
+    Judged::Taken {
+        row: row,
+        height: height,
+        least_key: least_key,
+        cursor: further,
+    }
+}
+
 // Judges the line at the cursor as one of a kind, whose lines have so many octets.
 pub fn judged_line(
     text: &[u8],
@@ -232,29 +287,27 @@ pub fn judged_line(
     size: usize,
     bounds: Bounds,
     heights: &[u8; MOST_FORMULAS],
+    digits: &[u8; 256],
 ) -> Judged
-    requires { ⌜ TableKind kind × CursorBound cursor × HeightsLow kind (now heights) ⌝ }
+    requires { ⌜ TableKind kind × CursorBound cursor × HeightsLow kind (now heights) × (size ≤ lineRoom) × IsDigitTable (now digits) ⌝ }
     ensures { λ r. ⌜ judgedValues r ≡ judgedOf (now (text .entry)) cursor kind size bounds (at (now (heights .entry))) ⌝ }
 {
     let offset = cursor.offset;
-    match next_line(text, offset, kind, size) {
-        Next::Other => Judged::Other,
-        Next::Refused(number) => Judged::Refused(number),
-        Next::Body { next, total } => {
-            let row = row_at(text, offset, kind);
-            let height = height_of(kind, row, heights);
-            let number = row_refusal(kind, bounds, height, row);
+    let mut octets = [0u8; LINE_ROOM];
+    match octets::sized_line(text, offset, size, digits, &mut octets) {
+        SizedLine::Other => {
+            let number = other_refusal(text, offset, kind);
             if number != 0 {
                 return Judged::Refused(number);
             }
-            let least_key = after_row(kind, row);
-            let further = past(cursor, kind, next, total);
-            Judged::Taken {
-                row: row,
-                height: height,
-                least_key: least_key,
-                cursor: further,
+            Judged::Other
+        }
+        SizedLine::Octets { total } => {
+            if octets[1] != kind {
+                return Judged::Other;
             }
+            let further = past(cursor, kind, offset + 2 * size + 1, total);
+            judged_octets(kind, size, bounds, heights, &octets, further)
         }
     }
 }

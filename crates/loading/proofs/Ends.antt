@@ -105,34 +105,34 @@ module _ (text : List ℕ) (s : Stage) (z : s .cursor .number ≡ 0) (r : Ready 
         let l = r .last in
         well-placed (reading s) end (f .os) (f .ours) not-ended refl (r .begun .some) (omega arith) (omega arith)
 
-    numbers-end : numbers end (f .os) ≡ numberAt (rest text s) 2 2 ∷ numberAt (rest text s) 4 4 ∷ []
-    numbers-end = numbers-are (rest text s) (f .os) 6 (f .framed) (f .sized) end refl
+    numbers-end : numbers end (f .os) ≡ numberAt (f .os) 2 2 ∷ numberAt (f .os) 4 4 ∷ []
+    numbers-end = numbers-are (f .os) 6 (f .sized) end refl
 
     end-refusal : lineRefusal (reading s) end (f .os)
-        ≡ cond (not (eqb (numberAt (rest text s) 2 2) (s .cursor .lines) && eqb (numberAt (rest text s) 4 4) (s .cursor .sum))) wrongEnd 0
+        ≡ cond (not (eqb (numberAt (f .os) 2 2) (s .cursor .lines) && eqb (numberAt (f .os) 4 4) (s .cursor .sum))) wrongEnd 0
     unfolding lineRefusal endWrong rowCauses inRange
     end-refusal =
         rw placed
         (λ i. cond (not (eqb (at (numbers-end i) 0) (s .cursor .lines) && eqb (at (numbers-end i) 1) (s .cursor .sum))) wrongEnd 0)
 
-    pub finish-count : {n : ℕ} → n ≡ numberAt (rest text s) 2 2 → n ≢ s .cursor .lines
+    pub finish-count : {n : ℕ} → n ≡ numberAt (f .os) 2 2 → n ≢ s .cursor .lines
         → notLoaded wrongEnd (s .cursor .lines + 1) ≡ loadedFrom text s
     finish-count {n} e h =
         sym (on ∙ read-not (reading s) text (s .cursor .offset) (f .within) (f .framed) end known
-        (end-refusal ∙ rw (ne-eqb (numberAt (rest text s) 2 2) (s .cursor .lines) (λ q. h (e ∙ q)))) (λ q. omega arith))
+        (end-refusal ∙ rw (ne-eqb (numberAt (f .os) 2 2) (s .cursor .lines) (λ q. h (e ∙ q)))) (λ q. omega arith))
 
-    pub finish-sum : {n : ℕ} → n ≡ numberAt (rest text s) 4 4 → n ≢ s .cursor .sum
+    pub finish-sum : {n : ℕ} → n ≡ numberAt (f .os) 4 4 → n ≢ s .cursor .sum
         → notLoaded wrongEnd (s .cursor .lines + 1) ≡ loadedFrom text s
     finish-sum {n} e h =
         sym (on ∙ read-not (reading s) text (s .cursor .offset) (f .within) (f .framed) end known
         (end-refusal
         ∙ rw (
-          ne-eqb (numberAt (rest text s) 4 4) (s .cursor .sum) (λ q. h (e ∙ q)),
+          ne-eqb (numberAt (f .os) 4 4) (s .cursor .sum) (λ q. h (e ∙ q)),
           and-false
-              (eqb (numberAt (rest text s) 2 2) (s .cursor .lines)),
+              (eqb (numberAt (f .os) 2 2) (s .cursor .lines)),
         )) (λ q. omega arith))
 
-    pub finish-ended : {n m : ℕ} → n ≡ numberAt (rest text s) 2 2 → n ≡ s .cursor .lines → m ≡ numberAt (rest text s) 4 4
+    pub finish-ended : {n m : ℕ} → n ≡ numberAt (f .os) 2 2 → n ≡ s .cursor .lines → m ≡ numberAt (f .os) 4 4
         → m ≡ s .cursor .sum
         → endedAt text next (s .cursor .lines + 1) (s .rules) ≡ loadedFrom text s
     unfolding endedAt afterLine appended
@@ -141,8 +141,8 @@ module _ (text : List ℕ) (s : Stage) (z : s .cursor .number ≡ 0) (r : Ready 
         ∙ read-on (reading s) text (s .cursor .offset) (f .within) (f .framed) end known
         (end-refusal
         ∙ rw (
-          eq-eqb (numberAt (rest text s) 2 2) (s .cursor .lines) (sym e ∙ e′),
-          eq-eqb (numberAt (rest text s) 4 4) (s .cursor .sum)
+          eq-eqb (numberAt (f .os) 2 2) (s .cursor .lines) (sym e ∙ e′),
+          eq-eqb (numberAt (f .os) 4 4) (s .cursor .sum)
               (sym g ∙ g′),
         ))
         ∙ read-ended (afterLine (reading s) end (f .os)) _ refl

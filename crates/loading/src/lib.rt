@@ -7,6 +7,7 @@ ghost use Rattle.policy.specs.Table.{end};
 ghost use Rattle.reading.specs.Loading.{notLoaded};
 ghost use Rattle.reading.specs.Loading as loading;
 ghost use Rattle.reading.specs.Stages.{loadedFrom, endedAt, CirclesReady, Ready};
+use common::LINE_ROOM;
 use lines::Next;
 use lines::next_line;
 use lines::number_at;
@@ -71,12 +72,14 @@ fn finish(text: &[u8], from: Stage) -> Loaded
     if text.len() <= offset {
         return not_loaded(common::WRONG_END, cursor.lines + 1);
     }
-    match next_line(text, offset, 0xFF, 9) {
+    let digits = octets::digit_values();
+    let mut octets = [0u8; LINE_ROOM];
+    match next_line(text, offset, 0xFF, 9, &digits, &mut octets) {
         Next::Other => not_loaded(common::WRONG_KIND, cursor.lines + 1),
         Next::Refused(number) => not_loaded(number, cursor.lines + 1),
         Next::Body { next, total: _ } => {
-            let count = number_at(text, offset, 2, 2);
-            let sum = number_at(text, offset, 4, 4);
+            let count = number_at(&octets, 2, 2);
+            let sum = number_at(&octets, 4, 4);
             if count != (cursor.lines as u64) {
                 return not_loaded(common::WRONG_END, cursor.lines + 1);
             }

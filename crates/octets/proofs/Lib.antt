@@ -1,3 +1,4 @@
 mod Octet
 mod Running
+mod Sized
 mod Written

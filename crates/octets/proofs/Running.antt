@@ -16,17 +16,17 @@ use Rattle.common.specs.Refusals.{wrongCharacters, wrongLength, wrongSum}
 use Rattle.octets.specs.Line.{digitValue, isDigit, octet, lineOf, ended, pairs, octetsOf, total}
 use Rattle.octets.specs.Line.{Framed, refused, octets, judged, frame}
 use Rattle.octets.specs.LineLaws.{not-end}
-use Rattle.octets.specs.Answers.{LineValues, refusedWith, acceptedWith, framedValues, valuesAtEnd}
+use Rattle.octets.specs.Answers.{refusedWith, acceptedWith, framedValues, valuesAtEnd}
 
 -- a line l of which the octets os have been read already; e says whether it has an end
-pub from : List ℕ → Bool → List ℕ → Framed
+unfoldable pub from : List ℕ → Bool → List ℕ → Framed
 from os e l = cond (e && (ltb 0 (length os + length l) && pairs l)) (judged (os ++ octetsOf l)) (refused 1)
 
 -- and at the text t
 abbrev pub fromText : List ℕ → List ℕ → Framed
 fromText os t = from os (ended t) (lineOf t)
 
-line-more : (a : ℕ) (t : List ℕ) → a ≢ 10 → lineOf (a ∷ t) ≡ a ∷ lineOf t
+pub line-more : (a : ℕ) (t : List ℕ) → a ≢ 10 → lineOf (a ∷ t) ≡ a ∷ lineOf t
 line-more a t h = rw (ne-eqb a 10 h)
 
 ended-more : (a : ℕ) (t : List ℕ) → a ≢ 10 → ended (a ∷ t) ≡ ended t
@@ -37,7 +37,7 @@ last-false true true z e = e
 last-false true false z e = refl
 last-false false y z e = refl
 
-from-none : (os : List ℕ) (e : Bool) (l : List ℕ) → pairs l ≡ false → from os e l ≡ refused 1
+pub from-none : (os : List ℕ) (e : Bool) (l : List ℕ) → pairs l ≡ false → from os e l ≡ refused 1
 unfolding from
 from-none os e l h = rw (last-false e (ltb 0 (length os + length l)) (pairs l) h)
 
@@ -55,7 +55,7 @@ from-pair os e a b l la lb =
 
 -- ---- at a text
 
-start : (t : List ℕ) → frame t ≡ fromText [] t
+pub start : (t : List ℕ) → frame t ≡ fromText [] t
 unfolding frame from
 start t = simp zero-add
 
@@ -63,14 +63,14 @@ no-text : (os : List ℕ) → fromText os [] ≡ refused 1
 unfolding from
 no-text os = refl
 
-more : (os : List ℕ) (a b : ℕ) (t : List ℕ) → digitValue a < 16 → digitValue b < 16
+pub more : (os : List ℕ) (a b : ℕ) (t : List ℕ) → digitValue a < 16 → digitValue b < 16
     → fromText os (a ∷ b ∷ t) ≡ fromText (os ++ octet a b ∷ []) t
 more os a b t la lb =
     let ha = not-end a la in
     let hb = not-end b lb in
     rw (ended-more a (b ∷ t) ha, ended-more b t hb, line-more a (b ∷ t) ha, line-more b t hb) (from-pair os (ended t) a b (lineOf t) la lb)
 
-at-end : (os t : List ℕ) → fromText os (10 ∷ t) ≡ cond (ltb 0 (length os)) (judged os) (refused 1)
+pub at-end : (os t : List ℕ) → fromText os (10 ∷ t) ≡ cond (ltb 0 (length os)) (judged os) (refused 1)
 unfolding from
 at-end os t = simp (append-nil, add-zero) (go (ltb 0 (length os)))
   where
@@ -85,13 +85,13 @@ no-digit a (b ∷ l) h = rw (le-ltb (digitValue a) 16 h)
 no-digit₂ : (a b : ℕ) (l : List ℕ) → 16 ≤ digitValue b → pairs (a ∷ b ∷ l) ≡ false
 no-digit₂ a b l h = rw (le-ltb (digitValue b) 16 h) (and-false (isDigit a))
 
-other : (os : List ℕ) (a : ℕ) (t : List ℕ) → a ≢ 10 → 16 ≤ digitValue a → fromText os (a ∷ t) ≡ refused 1
+pub other : (os : List ℕ) (a : ℕ) (t : List ℕ) → a ≢ 10 → 16 ≤ digitValue a → fromText os (a ∷ t) ≡ refused 1
 other os a t ne h = rw (line-more a t ne) (from-none os _ (a ∷ lineOf t) (no-digit a (lineOf t) h))
 
 short : (os : List ℕ) (a : ℕ) → a ≢ 10 → fromText os (a ∷ []) ≡ refused 1
 short os a ne = rw (line-more a [] ne) (from-none os _ (a ∷ []) refl)
 
-other₂ : (os : List ℕ) (a b : ℕ) (t : List ℕ) → a ≢ 10 → 16 ≤ digitValue b → fromText os (a ∷ b ∷ t) ≡ refused 1
+pub other₂ : (os : List ℕ) (a b : ℕ) (t : List ℕ) → a ≢ 10 → 16 ≤ digitValue b → fromText os (a ∷ b ∷ t) ≡ refused 1
 other₂ os a b t ne h = rw (line-more a (b ∷ t) ne) (from-none os _ _ (go (eqb b 10)))
   where
     go : (x : Bool) → pairs (a ∷ cond x [] (b ∷ lineOf t)) ≡ false
@@ -126,7 +126,7 @@ run-start s offset =
       stands = omega arith;
     }
 
-total-more : (os : List ℕ) (x : ℕ) → total (os ++ x ∷ []) ≡ total os + x
+pub total-more : (os : List ℕ) (x : ℕ) → total (os ++ x ∷ []) ≡ total os + x
 total-more [] x = omega arith
 total-more (o ∷ os) x = let h = total-more os x in omega arith
 

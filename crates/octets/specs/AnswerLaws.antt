@@ -1,14 +1,18 @@
--- What an answer of `read_line` says of the line, by its number and values; no other answer has them.
+-- What an answer of `read_line` says of the line, by its number and values; no other answer has them. The same of `sized_line`.
 use Prim.Native.Nat.{ℕ, _+_, _*_}
 use mathlib.Core.Path.{_≡_, refl, sym, _∙_, ap}
 use mathlib.Core.List.{List}
+use mathlib.Core.Option.{some}
 use native.Mathlib.Omega.{arith}
 use lib.ListN.{length}
 use Rattle.octets.specs.Line.{Framed, refused, octets, total, frame}
 use Rattle.octets.specs.LineLaws.{refused-is}
-use Rattle.octets.specs.Answers.{LineValues, lineValues, framedValues}
+use Rattle.octets.specs.Answers.{LineValues, lineValues, framedValues, sizedTotal}
 use Rattle.octets.specs.declared.Line.{Line}
 use Rattle.octets.specs.declared.Line.the-variants.{Refused, Octets}
+use Rattle.octets.specs.declared.SizedLine.{SizedLine}
+use Rattle.octets.specs.declared.SizedLine.the-variants.{Other}
+use Rattle.octets.specs.declared.SizedLine.the-variants as sized
 
 -- the line has octets; their count, the next offset and the plain sum are those answered
 pub record AnswerOctets (offset count next sum : ℕ) (f : Framed) : Type 0 where
@@ -55,3 +59,13 @@ module _ (offset : ℕ) (t : List ℕ) where
   same-line (Octets n m s) (Refused k) e f =
       let q = values-refused k f in let w = values-octets n m s e .framed in let z : _≡_ {A = ℕ} 0 1 = cc in absurd (omega arith)
   same-line (Octets n m s) (Octets x y z) e f = ap (λ (v : LineValues). Octets (v .count) (v .next) (v .total)) (e ∙ sym f)
+
+-- and so does the plain sum of a line of a size
+pub same-sized : (a b : SizedLine) → sizedTotal a ≡ sizedTotal b → a ≡ b
+same-sized Other Other e = refl
+same-sized Other (sized.Octets t) e = let z : _≡_ {A = ℕ} 0 1 = cc in absurd (omega arith)
+same-sized (sized.Octets s) Other e = let z : _≡_ {A = ℕ} 0 1 = cc in absurd (omega arith)
+same-sized (sized.Octets s) (sized.Octets t) e = ap sized.Octets (go e)
+  where
+    go : some s ≡ some t → s ≡ t
+    go e = cc

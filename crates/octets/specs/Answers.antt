@@ -1,14 +1,20 @@
 -- What the functions of this crate answer, by the definitions of `Line`.
-use Prim.Native.Nat.{ℕ, _+_, _*_, _/_, _%_}
+use Prim.Native.Nat.{ℕ, _+_, _*_, _/_, _%_, _≤_}
 use mathlib.Core.Bool.{Bool, cond, _&&_}
+use mathlib.Core.Path.{_≡_}
 use mathlib.Core.List.{List, _++_}
+use mathlib.Core.Option.{Option, none, some}
 use lib.ListN.{length, drop, set}
 use lib.Dec.{leb, eqb}
 use Rattle.common.specs.Lists.{at}
+use Rattle.common.specs.Limits.{lineRoom}
 use Rattle.common.specs.Refusals.{wrongCharacters, wrongLength, wrongSum}
 use Rattle.octets.specs.Line.{Framed, refused, octets, total, isDigit, octet, digit, framed, lineBytes}
 use Rattle.octets.specs.declared.Line.{Line}
 use Rattle.octets.specs.declared.Line.the-variants.{Refused, Octets}
+use Rattle.octets.specs.declared.SizedLine.{SizedLine}
+use Rattle.octets.specs.declared.SizedLine.the-variants.{Other}
+use Rattle.octets.specs.declared.SizedLine.the-variants as sized
 
 -- "a definition gives this paper's number and values for each of the enum's cases": of an answer of `read_line`
 pub record LineValues : Type 0 where
@@ -41,6 +47,29 @@ valuesAtEnd count first sum next plain =
     cond (eqb count 0)
     (refusedWith wrongCharacters)
     (cond (eqb (first + 3) count) (cond (eqb sum 0) (acceptedWith count next plain) (refusedWith wrongSum)) (refusedWith wrongLength))
+
+-- of an answer of `sized_line`: the plain sum of the octets, where a line of the size was read
+abbrev pub sizedTotal : SizedLine → Option ℕ
+sizedTotal Other = none
+sizedTotal (sized.Octets total) = some total
+
+-- of a framed line
+abbrev pub totalOfSize : ℕ → Framed → Option ℕ
+totalOfSize size (refused k) = none
+totalOfSize size (octets os) = cond (eqb (length os) size) (some (total os)) none
+
+-- the same at the end of a line of the size, from the first octet, the sum of all modulo 256, and the plain sum
+abbrev pub sizedAtEnd : ℕ → ℕ → ℕ → ℕ → Option ℕ
+sizedAtEnd size first sum plain = cond (eqb (first + 3) size) (cond (eqb sum 0) (some plain) none) none
+
+-- a room for the octets of a line, which the size does not pass
+pub record RoomFor (size : ℕ) (room : List ℕ) : Type 0 where
+  pub whole : length room ≡ lineRoom
+  pub fits : size ≤ lineRoom
+
+-- where a framed line is of the size, its octets stand first in a room, and the rest is as before
+abbrev pub HoldsLine : ℕ → Framed → List ℕ → List ℕ → Type 0
+HoldsLine size f before after = (os : List ℕ) → f ≡ octets os → length os ≡ size → after ≡ os ++ drop size before
 
 -- the octet of two bytes; 0 where one of them is no digit
 unfoldable pub octetOf : ℕ → ℕ → ℕ

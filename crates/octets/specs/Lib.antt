@@ -1,4 +1,5 @@
 pub mod Line
+pub mod DigitTable
 pub mod Number
 pub mod Answers
 pub mod Damage

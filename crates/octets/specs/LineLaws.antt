@@ -30,18 +30,6 @@ pub value-below : (c : ℕ) → c < 48 → digitValue c ≡ 16
 unfolding digitValue
 value-below c h = simp (lt-leb 48 c h, lt-leb 65 c (let l : c < 65 = omega arith in l))
 
-pub value-between : (c : ℕ) → 57 < c → c < 65 → digitValue c ≡ 16
-unfolding digitValue
-value-between c h k = simp (le-leb 48 c (let l : 48 ≤ c = omega arith in l), lt-leb c 57 h, lt-leb 65 c k)
-
-pub value-above : (c : ℕ) → 70 < c → digitValue c ≡ 16
-unfolding digitValue
-value-above c h =
-    let a : 48 ≤ c = omega arith in
-    let b : 57 < c = omega arith in
-    let d : 65 ≤ c = omega arith in
-    simp (le-leb 48 c a, lt-leb c 57 b, le-leb 65 c d, lt-leb c 70 h)
-
 -- a digit is a number or a letter, with this value
 abbrev pub DigitIs : ℕ → ℕ → Type 0
 DigitIs c v = ((48 ≤ c) × (c ≤ 57) × (v ≡ c - 48)) ⊎ ((65 ≤ c) × (c ≤ 70) × (v ≡ c - 55))

@@ -5,11 +5,19 @@ ghost use Prim.Native.Nat.{_+_, _<_};
 ghost use lib.ListN.{length, drop};
 ghost use Rattle.octets.specs.Line.{digitValue, frame};
 ghost use Rattle.octets.specs.Line as line;
+ghost use Rattle.octets.specs.DigitTable.{IsDigitTable};
 ghost use Rattle.octets.specs.Answers.{lineValues, framedValues, valuesAtEnd};
+ghost use Rattle.octets.specs.Answers.{sizedTotal, sizedAtEnd, totalOfSize, RoomFor, HoldsLine};
 ghost use Rattle.octets.specs.Answers.{octetOf, octetAt, placed, writtenLength, writtenBuffer};
+
+mod digits;
+
+use common::LINE_ROOM;
 use common::WRONG_CHARACTERS;
 use common::WRONG_LENGTH;
 use common::WRONG_SUM;
+use digits::DIGIT_VALUES;
+use digits::NO_DIGIT;
 
 // What the line at an offset of a text is.
 pub enum Line {
@@ -23,23 +31,27 @@ pub enum Line {
     },
 }
 
+// The table of digits, for a reader to look its bytes up in.
+pub fn digit_values() -> [u8; 256]
+    ensures { λ r. ⌜ IsDigitTable r ⌝ }
+{
+    DIGIT_VALUES
+}
+
+// What the table has at a byte.
+pub fn looked_up(digits: &[u8; 256], c: u8) -> u8
+    requires { ⌜ IsDigitTable (now digits) ⌝ }
+    ensures { λ r. ⌜ r ≡ digitValue c ⌝ }
+{
+    digits[c as usize]
+}
+
 // The value of a digit; 16 where the byte is none.
 pub fn digit_value(c: u8) -> u8
     ensures { λ r. ⌜ r ≡ digitValue c ⌝ }
 {
-    if c < 48 {
-        return 16;
-    }
-    if c <= 57 {
-        return c - 48;
-    }
-    if c < 65 {
-        return 16;
-    }
-    if c <= 70 {
-        return c - 55;
-    }
-    16
+    let digits = digit_values();
+    looked_up(&digits, c)
 }
 
 // What a line is at its end, by its count of octets, the first octet, and the sum of all, modulo 256 and plain.
@@ -63,9 +75,11 @@ fn answer_at_end(count: usize, first: u8, sum: u8, next: usize, total: usize) ->
 }
 
 // Reads the line that starts at an offset of the text. The octets' running sum wraps, and is compared with zero at the line's end.
+// A byte is compared with that end only where it is no digit.
 pub fn read_line(text: &[u8], offset: usize) -> Line
     ensures { λ r. ⌜ lineValues r ≡ framedValues offset (frame (drop offset (now (text .entry)))) ⌝ }
 {
+    let digits = digit_values();
     let mut i = offset;
     let mut n: usize = 0;
     let mut first: u8 = 0;
@@ -73,19 +87,19 @@ pub fn read_line(text: &[u8], offset: usize) -> Line
     let mut total: usize = 0;
     while i < text.len() {
         let a = text[i];
-        if a == 0x0A {
-            return answer_at_end(n, first, sum, i + 1, total);
-        }
-        let x = digit_value(a);
-        if 16 <= x {
+        let x = looked_up(&digits, a);
+        if NO_DIGIT <= x {
+            if a == 0x0A {
+                return answer_at_end(n, first, sum, i + 1, total);
+            }
             return Line::Refused(WRONG_CHARACTERS);
         }
         let j = i + 1;
         if text.len() <= j {
             return Line::Refused(WRONG_CHARACTERS);
         }
-        let y = digit_value(text[j]);
-        if 16 <= y {
+        let y = looked_up(&digits, text[j]);
+        if NO_DIGIT <= y {
             return Line::Refused(WRONG_CHARACTERS);
         }
         let o = x * 16 + y;
@@ -100,16 +114,76 @@ pub fn read_line(text: &[u8], offset: usize) -> Line
     Line::Refused(WRONG_CHARACTERS)
 }
 
+// What a line of a size that its reader asks for is.
+pub enum SizedLine {
+    // No such line stands there.
+    Other,
+    // An accepted line of that size, with the plain sum of its octets.
+    Octets { total: usize },
+}
+
+// What a line of a size is at its end, by its first octet and the sum of all, modulo 256 and plain.
+fn sized_at_end(size: usize, first: u8, sum: u8, total: usize) -> SizedLine
+    ensures { λ r. ⌜ sizedTotal r ≡ sizedAtEnd size first sum total ⌝ }
+{
+    if (first as usize) + 3 != size {
+        return SizedLine::Other;
+    }
+    if sum != 0 {
+        return SizedLine::Other;
+    }
+    SizedLine::Octets { total: total }
+}
+
+// Reads the line at an offset as one of so many octets, and puts them at the start of a room for a line's octets. Each digit is
+// looked up once, and whether each was one is asked once, after the last: the mark sets a bit that no digit's value has.
+pub fn sized_line(
+    text: &[u8],
+    offset: usize,
+    size: usize,
+    digits: &[u8; 256],
+    octets: &mut [u8; LINE_ROOM],
+) -> SizedLine
+    requires { ⌜ IsDigitTable (now digits) × RoomFor size (now octets) ⌝ }
+    ensures total { λ r. ⌜ sizedTotal r ≡ totalOfSize size (frame (drop offset (now (text .entry)))) ⌝ }
+    ensures octets { λ _. ⌜ HoldsLine size (frame (drop offset (now (text .entry)))) (now (octets .entry)) (now (octets .exit)) ⌝ }
+{
+    if text.len() <= offset || text.len() - offset <= 2 * size {
+        return SizedLine::Other;
+    }
+    let mut n: usize = 0;
+    let mut marks: u8 = 0;
+    let mut sum: u8 = 0;
+    let mut total: usize = 0;
+    while n < size {
+        let i = offset + 2 * n;
+        let a = text[i];
+        let b = text[i + 1];
+        let x = looked_up(digits, a);
+        let y = looked_up(digits, b);
+        marks = marks | x | y;
+        let octet = (((x as usize) * 16 + (y as usize)) % 256) as u8;
+        octets[n] = octet;
+        sum = std::num::wrapping_add_u8(sum, octet);
+        total += octet as usize;
+        n += 1;
+    }
+    if NO_DIGIT <= marks || text[offset + 2 * size] != 0x0A {
+        return SizedLine::Other;
+    }
+    sized_at_end(size, octets[0], sum, total)
+}
+
 // The octet of two digits; 0 where one of the bytes is no digit.
 fn octet_of(high: u8, low: u8) -> u8
     ensures { λ r. ⌜ r ≡ octetOf high low ⌝ }
 {
     let x = digit_value(high);
-    if 16 <= x {
+    if NO_DIGIT <= x {
         return 0;
     }
     let y = digit_value(low);
-    if 16 <= y {
+    if NO_DIGIT <= y {
         return 0;
     }
     x * 16 + y

@@ -1,15 +1,13 @@
 -- The lines that `read_kind` has taken: what its loop keeps, for any kind that has a table.
-use Prim.Native.Nat.{ℕ, _+_, _-_, _<_}
+use Prim.Native.Nat.{ℕ, _+_, _-_, _≤_, _<_}
 use mathlib.Core.Path.{_≡_, refl, sym, _∙_, ap, subst, subst₂}
-use mathlib.Core.Logic.{_≢_}
 use mathlib.Core.List.{List, [], _∷_}
 use native.Mathlib.Omega.{arith}
-use lib.ListN.{length, drop, set, replicate}
+use lib.ListN.{length, set, replicate}
 use borrow.Author.Tests.{eq-eqb}
 use Rattle.common.specs.Lists.{at}
-use Rattle.common.specs.Limits.{mostFormulas, mostLines}
+use Rattle.common.specs.Limits.{mostFormulas, mostLines, lineRoom}
 use Rattle.octets.specs.Line.{total}
-use Rattle.octets.specs.Answers.{octetAt}
 use Rattle.policy.specs.declared.Record.{Record}
 use Rattle.policy.specs.Table.{Kind, head, user, edge, formula, demarcation, hierarchy, principal, exclusion, prerequisite, method, end}
 use Rattle.policy.specs.Table.{code, count, room, appended, kindOf}
@@ -25,7 +23,7 @@ use Rattle.rows.specs.Op.{opOf, heightOf}
 use Rattle.lines.specs.declared.Row.{Row}
 use Rattle.lines.specs.declared.Bounds.{Bounds}
 use Rattle.lines.specs.declared.Cursor.{Cursor}
-use Rattle.lines.specs.NextLine.{noLine, bodyLine, nextOf}
+use Rattle.lines.specs.NextLine.{noLine, bodyLine, nextOf, octetsIn, octetsAt}
 use Rattle.lines.specs.Judging.{rowAt, fieldsOf, heightBy, refusalBy, movedPast, CursorBound, HeightsLow}
 use Rattle.lines.proofs.JudgedLine.{Refuses, Takes}
 use Rattle.lines.proofs.JudgedLine.Refuses.{as-line, by-numbers}
@@ -41,25 +39,25 @@ use Rattle.reading.proofs.Partway.{partway-more, cursor-bound}
 
 -- ---- kind by kind
 
-two : (t : List ℕ) → fieldsAt t (1 ∷ 1 ∷ []) 2 ≡ octetAt t 2 ∷ octetAt t 3 ∷ []
-two t = sym (λ i. one-octet t 2 i ∷ one-octet t 3 i ∷ [])
+two : (os : List ℕ) → fieldsAt os (1 ∷ 1 ∷ []) 2 ≡ at os 2 ∷ at os 3 ∷ []
+two os = sym (λ i. one-octet os 2 i ∷ one-octet os 3 i ∷ [])
 
-three : (t : List ℕ) → fieldsAt t (1 ∷ 1 ∷ 1 ∷ []) 2 ≡ octetAt t 2 ∷ octetAt t 3 ∷ octetAt t 4 ∷ []
-three t = sym (λ i. one-octet t 2 i ∷ one-octet t 3 i ∷ one-octet t 4 i ∷ [])
+three : (os : List ℕ) → fieldsAt os (1 ∷ 1 ∷ 1 ∷ []) 2 ≡ at os 2 ∷ at os 3 ∷ at os 4 ∷ []
+three os = sym (λ i. one-octet os 2 i ∷ one-octet os 3 i ∷ one-octet os 4 i ∷ [])
 
 -- the numbers of a line's body
-row-numbers : (k : Kind) → HasTable k → (t : List ℕ) → fieldsAt t (widths k) 2 ≡ fieldsOf k (rowAt (code k) t)
-row-numbers head p t = absurd (let l = p .low in omega arith)
-row-numbers user p t = sym (λ i. one-octet t 2 i ∷ two-octets t 3 i ∷ [])
-row-numbers edge p t = three t
-row-numbers formula p t = three t
-row-numbers demarcation p t = refl
-row-numbers hierarchy p t = two t
-row-numbers principal p t = two t
-row-numbers exclusion p t = two t
-row-numbers prerequisite p t = two t
-row-numbers method p t = sym (λ i. one-octet t 2 i ∷ fieldsAt t (8 ∷ []) 3)
-row-numbers end p t = absurd (let l = p .high in omega arith)
+row-numbers : (k : Kind) → HasTable k → (os : List ℕ) → fieldsAt os (widths k) 2 ≡ fieldsOf k (rowAt (total (widths k) + 3) os)
+row-numbers head p os = absurd (let l = p .low in omega arith)
+row-numbers user p os = sym (λ i. one-octet os 2 i ∷ two-octets os 3 i ∷ [])
+row-numbers edge p os = three os
+row-numbers formula p os = three os
+row-numbers demarcation p os = refl
+row-numbers hierarchy p os = two os
+row-numbers principal p os = two os
+row-numbers exclusion p os = two os
+row-numbers prerequisite p os = two os
+row-numbers method p os = sym (λ i. one-octet os 2 i ∷ fieldsAt os (8 ∷ []) 3)
+row-numbers end p os = absurd (let l = p .high in omega arith)
 
 -- what refuses them, held to the counts of a record
 abbrev pub boundsOf : Record → ℕ → ℕ → Bounds
@@ -93,6 +91,23 @@ row-refused end p r i h v e q = absurd (let l = p .high in omega arith)
 
 has-table : {kind size : ℕ} → ReadableKind kind size → HasTable (kindOf kind)
 has-table w = let e = w .octet .known in let l = w .octet .low in let h = w .octet .high in record { low = omega arith; high = omega arith }
+
+-- a line of any kind fits into the room for one
+line-fits : (k : Kind) → total (widths k) + 3 ≤ lineRoom
+line-fits head = omega arith
+line-fits user = omega arith
+line-fits edge = omega arith
+line-fits formula = omega arith
+line-fits demarcation = omega arith
+line-fits hierarchy = omega arith
+line-fits principal = omega arith
+line-fits exclusion = omega arith
+line-fits prerequisite = omega arith
+line-fits method = omega arith
+line-fits end = omega arith
+
+pub size-fits : {kind size : ℕ} → ReadableKind kind size → size ≤ lineRoom
+size-fits {kind} w = let l = line-fits (kindOf kind) in omega (arith, w .sized)
 
 -- n lines of the kind have been taken, with the least key that may follow and, of formulas, their heights
 pub record TakenLines (text : List ℕ) (kind : ℕ) (start : Stage) (c : Cursor) (r : Record) (n least : ℕ) (heights : List ℕ) : Type 0 where
@@ -134,13 +149,12 @@ module _ {text : List ℕ} {kind size : ℕ} {start : Stage} {c : Cursor} {r : R
     found : FoundLine text (c .offset) (code (kindOf kind)) size next sum
     found = found-line text (c .offset) (code (kindOf kind)) size (as-kind ∙ e)
 
-    module _ {v : Row} (q : v ≡ rowAt kind (drop (c .offset) text)) where
+    module _ {v : Row} (q : v ≡ rowAt size (octetsAt text (c .offset))) where
       fields : numbers (kindOf kind) (found .os) ≡ fieldsOf (kindOf kind) v
       fields =
-          numbers-are (drop (c .offset) text) (found .os) (total (widths (kindOf kind))) (found .framed) (found .sized ∙ w .sized)
-          (kindOf kind) refl
-          ∙ row-numbers (kindOf kind) (has-table w) (drop (c .offset) text)
-          ∙ ap (fieldsOf (kindOf kind)) (ap (λ (o : ℕ). rowAt o (drop (c .offset) text)) (w .octet .known) ∙ sym q)
+          numbers-are (found .os) (total (widths (kindOf kind))) (found .sized ∙ w .sized) (kindOf kind) refl
+          ∙ row-numbers (kindOf kind) (has-table w) (found .os)
+          ∙ ap (fieldsOf (kindOf kind)) ((λ i. rowAt (sym (w .sized) i) (octetsIn (sym (found .framed) i))) ∙ sym q)
 
       module _ {h : ℕ} (u : h ≡ heightBy kind v (at heights)) where
         refusal :

@@ -1,5 +1,5 @@
 -- The tables of a loaded record are the lines of the text, kind by kind and in order.
-use Prim.Native.Nat.{ℕ, zero, suc, _<_}
+use Prim.Native.Nat.{ℕ, _<_}
 use mathlib.Core.Path.{_≡_, refl, sym, _∙_, ap, subst}
 use mathlib.Core.Bool.{Bool, true, false, false≢true, cond}
 use mathlib.Core.List.{List, [], _∷_, _++_, map, append-assoc, append-nil}
@@ -8,6 +8,7 @@ use native.Mathlib.Numerals.{add-one}
 use lib.Dec.{eqb}
 use borrow.Author.Tests.{eqb-true, ne-eqb}
 use Rattle.common.specs.Lists.{at, table}
+use Rattle.common.specs.ListLaws.{table-same}
 use Rattle.octets.specs.Line.{Framed, kindOctet, bodyOf, lines}
 use Rattle.policy.specs.declared.Record.{Record}
 use Rattle.policy.specs.Table.{Kind, head, user, edge, formula, demarcation, hierarchy, principal, exclusion, prerequisite, method, end}
@@ -27,11 +28,6 @@ use Rattle.reading.specs.FramedLaws.Checked.{refused-line, octets-line}
 use Rattle.reading.specs.TakenLaws.{read-taken, end-taken}
 
 -- ---- one line more
-
--- tables of the same rows
-pub table-same : {A : Type 0} (n : ℕ) (f g : ℕ → A) → ((i : ℕ) → i < n → f i ≡ g i) → table n f ≡ table n g
-table-same zero f g h = refl
-table-same (suc n) f g h = λ t. table-same n f g (λ i l. h i (omega arith)) t ++ (h n (omega arith) t ∷ [])
 
 -- a line's body has as many numbers as its kind has columns
 pub as-many : (k : Kind) (r : Record) (b : List ℕ) → code k < 0xFF

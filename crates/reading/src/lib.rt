@@ -6,6 +6,7 @@ ghost use lib.ListN.{length};
 ghost use Rattle.common.specs.Limits.{mostLines};
 ghost use Rattle.policy.specs.Table.{kindOf};
 ghost use Rattle.reading.specs.Stages.{refusedAt, ReadableKind, Ready, Starts, Reads};
+use common::LINE_ROOM;
 use common::MOST_FORMULAS;
 use lines::Bounds;
 use lines::Cursor;
@@ -53,12 +54,14 @@ pub fn read_head(text: &[u8]) -> Stage
         sum: 0,
     };
     let mut rules = policy::blank();
-    match lines::next_line(text, 0, 0x01, 5) {
+    let digits = octets::digit_values();
+    let mut octets = [0u8; LINE_ROOM];
+    match lines::next_line(text, 0, 0x01, 5, &digits, &mut octets) {
         Next::Other => stopped(top, common::WRONG_KIND, rules),
         Next::Refused(number) => stopped(top, number, rules),
         Next::Body { next, total } => {
-            let version = octets::octet_at(text, 0, 2);
-            let objects = octets::octet_at(text, 0, 3);
+            let version = octets[2];
+            let objects = octets[3];
             let number = rows::head_refusal(version, objects);
             if number != 0 {
                 return stopped(top, number, rules);
@@ -87,6 +90,7 @@ pub fn read_kind(text: &[u8], kind: u8, size: usize, from: Stage) -> Stage
     let mut count: usize = 0;
     let mut least_key: u32 = 0;
     let mut heights = [0u8; MOST_FORMULAS];
+    let digits = octets::digit_values();
     loop {
         let bounds = Bounds {
             row: count,
@@ -96,7 +100,7 @@ pub fn read_kind(text: &[u8], kind: u8, size: usize, from: Stage) -> Stage
             demarcations: rules.demarcation_count,
             principals: rules.principal_count,
         };
-        match lines::judged_line(text, cursor, kind, size, bounds, &heights) {
+        match lines::judged_line(text, cursor, kind, size, bounds, &heights, &digits) {
             Judged::Other => {
                 return Stage { cursor, rules };
             }

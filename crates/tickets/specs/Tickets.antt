@@ -28,7 +28,7 @@ unfoldable pub setRefusal : Record → (ℕ → Bool) → ℕ → ℕ → ℕ
 setRefusal r enabled m c =
     cond (ltb c (2 ^ (r .«principal_count»)) && every enabled (members r c)) (constraintRefusal r m c) notEnabled
 
--- and these "after 19 and 14 to 16", of whose question that is `refusal`
+-- 20 to 22 are "after 19 and 14 to 16": what refuses the question, if anything does, comes first
 abbrev pub afterQuestion : ℕ → ℕ → ℕ
 afterQuestion refusal n = cond (eqb refusal 0) n refusal
 

@@ -15,15 +15,27 @@ pub fn random(purpose: usize) -> Random {
     Random::of_case(SEED, purpose)
 }
 
-/// The loading and writing of the largest bundle and of the crown.
+/// The loading and writing of the largest bundle and of the crown, and the loading of two texts that
+/// are refused at their end. In the second of these the reference looks for the 0A first, and reads
+/// no digit; the engine reads them all.
 pub fn workloads() -> Vec<Workload> {
     let (largest, crown) = (support::bundle(&largest()), support::crown());
     vec![
         Workload::load("the largest bundle", &largest),
         Workload::load("the crown", &crown),
+        Workload::refused("the largest bundle, last check", &wrong_check(&largest), 3),
+        Workload::refused("65,536 digits without 0A", &[b'7'; 65_536], 1),
         Workload::write("the largest bundle", &largest),
         Workload::write("the crown", &crown),
     ]
+}
+
+/// A text whose last digit, of the last line's check octet, is another one.
+fn wrong_check(text: &[u8]) -> Vec<u8> {
+    let mut text = text.to_vec();
+    let last = text.len() - 2;
+    text[last] = if text[last] == b'0' { b'1' } else { b'0' };
+    text
 }
 
 /// A bundle at every limit of the contract.

@@ -62,7 +62,7 @@ pub fn engine_row(workload: &Workload, estimate: f64) -> Row {
     }
 }
 
-/// Both runs, once it is certain that they write and answer the same.
+/// Both runs, once it is certain that they load, write and answer the same.
 fn runs(workload: &Workload) -> (Run<'_>, Run<'_>) {
     let (engine, reference) = times(workload);
     let answers = match &workload.task {
@@ -74,7 +74,9 @@ fn runs(workload: &Workload) -> (Run<'_>, Run<'_>) {
         Run::of(REFERENCE, workload, reference),
     );
     let (first, second) = (runs.0.results(answers), runs.1.results(answers));
-    assert_eq!(first.0 >> 32, 0, "it loads: {}", workload.name);
+    let [loaded, written] = first.0.map(|value| value >> 32);
+    assert_eq!(loaded, workload.number, "loading: {}", workload.name);
+    assert!(loaded > 0 || written == 0, "writing: {}", workload.name);
     assert!(first == second, "the answers differ: {}", workload.name);
     runs
 }

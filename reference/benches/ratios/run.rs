@@ -51,16 +51,19 @@ impl Run<'_> {
         }
     }
 
-    /// What the first calls are answered, and what is written, to be compared.
-    pub fn results(&mut self, answers: usize) -> (u64, Vec<u8>, Vec<u8>) {
-        let written = if self.workload.lent {
+    /// What loading and writing return, what is written, and what the first calls are answered, to
+    /// be compared.
+    pub fn results(&mut self, answers: usize) -> ([u64; 2], Vec<u8>, Vec<u8>) {
+        let values = if self.workload.lent {
+            let loaded = self.load_lent();
             self.answer_singly();
-            self.write_lent()
+            [loaded, self.write_lent()]
         } else {
+            let loaded = self.load();
             self.answer();
-            self.write()
+            [loaded, self.write()]
         };
-        (written, self.out.clone(), self.answers[..answers].to_vec())
+        (values, self.out.clone(), self.answers[..answers].to_vec())
     }
 
     /// Loads and answers nothing.

@@ -49,6 +49,8 @@ pub struct Workload {
     pub task: Task,
     /// Whether it is done on a lent record, calls one at a time.
     pub lent: bool,
+    /// The number that loading returns.
+    pub number: u64,
 }
 
 impl Workload {
@@ -59,6 +61,16 @@ impl Workload {
             bundle: bundle.to_vec(),
             task: Task::Load,
             lent: false,
+            number: 0,
+        }
+    }
+
+    /// The loading of a text that is refused with a number.
+    pub fn refused(name: &str, text: &[u8], number: u64) -> Workload {
+        Workload {
+            name: format!("refused: {name} ({number})"),
+            number,
+            ..Workload::load(name, text)
         }
     }
 
@@ -69,6 +81,7 @@ impl Workload {
             bundle: bundle.to_vec(),
             task: Task::Write,
             lent: false,
+            number: 0,
         }
     }
 
@@ -95,6 +108,7 @@ impl Workload {
                 reference,
             }),
             lent: false,
+            number: 0,
         }
     }
 

@@ -1,65 +1,96 @@
 -- `next_line` meets its contract: each way out is a case of `nextOf`.
+use mathlib.Core.Path.{_≡_, sym, _∙_, ap}
+use mathlib.Core.Option.{none}
+use native.Mathlib.Omega.{arith}
 use lib.ListN.{drop}
-use Rattle.octets.specs.Line.{frame}
-use Rattle.octets.specs.AnswerLaws.{AnswerOctets, answer-refused, answer-octets}
-use Rattle.lines.proofs.NextLaws.{next-end, next-refused, next-other, next-size, next-body}
 use borrow.Author.Needs.{needs}
+use Rattle.common.specs.Lists.{at}
+use Rattle.octets.specs.Line.{kindOctet, frame}
+use Rattle.octets.specs.Answers.{sizedTotal, totalOfSize}
+use Rattle.lines.proofs.NextLaws.{OfSize, of-size, of-size-some, of-size-next, of-size-at, next-other, next-body}
+use Rattle.lines.proofs.NextLaws.{left-refused, left-other}
 use Rattle.lines.proofs.next_line.Statement.{statement}
 use Rattle.lines.proofs.next_line.Tie as tie
 
+-- the function's entry from the line that was read, and that from a line of the size
+abbrev entry : tie.After-sized-line → tie.Start
+entry l = l .before .before .before
+
+abbrev line : tie.After-total → tie.After-sized-line
+line n = n .before .before
+
+-- the line of the size
+there : (n : tie.After-total) → let a = entry (line n) .args in OfSize (a .text .now) (a .offset) (a .size) (n .total .given .0 .0)
+there n = of-size _ _ _ (sym (ap sizedTotal (n .total .given .1)) ∙ line n .sized-line .ensures .0)
+
+-- no line of the size
+left : (t : tie.After-enum-told) → let a = entry (t .before .before) .args in
+    none ≡ totalOfSize (a .size) (frame (drop (a .offset) (a .text .now)))
+left t = sym (ap sizedTotal (t .enum-told .given .1)) ∙ t .before .before .sized-line .ensures .0
+
+-- the octet that says the kind
+says : (n : tie.After-total) → at (line n .sized-line .last .1 .1 .1 .1 .0) 1 ≡ kindOctet (there n .os)
+says n =
+    of-size-at (there n) _ (line n .sized-line .ensures .1 _ (there n .framed) (there n .sized)) 1
+    (let h = of-size-some (there n) in omega arith)
+
+sized-line-requires : tie.Need-sized-line-requires
+sized-line-requires c κs = search needs
+
+enum-told : tie.Need-enum-told
+enum-told c = search needs
+
+other-refusal-requires : tie.Need-other-refusal-requires
+other-refusal-requires c κs = search needs
+
 returns : tie.Need-returns
-returns c = next-end _ _ _ _ (c .if1 .taken)
+returns c =
+    let r = c .before in
+    (left-refused _ _ _ _ (left (r .before)) (r .other-refusal .ensures) (c .if1 .taken), r .before .before .before .sized-line .ensures .1)
 
-read-line-requires : tie.Need-read-line-requires
-read-line-requires c κs = search needs
+enum-known-total : tie.Need-enum-known-total
+enum-known-total c = search needs
 
-enum-known-number : tie.Need-enum-known-number
-enum-known-number c = search needs
-
-enum-known-count : tie.Need-enum-known-count
-enum-known-count c = search needs
-
-octet-at-requires : tie.Need-octet-at-requires
-octet-at-requires c κs = search needs
-
--- the octets of the line that was read
-line : (c : tie.After-count) → let f =
-    c .before .before in let g = c .count .given .0 in AnswerOctets (f .before .before .before .args .offset) (g .0) (g .1 .0) (g .1 .1 .0)
-    (frame (drop (f .before .before .before .args .offset) (f .before .before .before .args .text .now)))
-line c = let f = c .before .before in answer-octets _ _ (f .read-line .ensures) (c .count .given .1)
+element-copy-out-if2 : tie.Need-element-copy-out-if2
+element-copy-out-if2 c = search needs
 
 returns-2 : tie.Need-returns-2
 returns-2 c =
-    let d = c .before .before .before in
-    next-other _ _ _ _ (d .before .before .before .if1 .left) (line d) (c .before .octet-at .ensures) (c .if2 .taken)
+    let n = c .before .before .before in
+    (next-other (there n) _ (λ z. c .if2 .taken (says n ∙ z)), line n .sized-line .ensures .1)
+
+mul-t17 : tie.Need-mul-t17
+mul-t17 c = search needs
+
+add-t18 : tie.Need-add-t18
+add-t18 c = let h = of-size-next (there (c .before .before .before)) in search needs
+
+add-t19 : tie.Need-add-t19
+add-t19 c = let h = of-size-next (there (c .before .before .before)) in search needs
 
 returns-3 : tie.Need-returns-3
 returns-3 c =
-    let a = c .before .before in
-    let d = a .before .before in
-    next-size _ _ _ _ (d .before .before .before .if1 .left) (line d) (a .octet-at .ensures) (c .before .if2 .left) (c .if3 .taken)
+    let r = c .before in
+    (left-other _ _ _ _ (left (r .before)) (r .other-refusal .ensures) (c .if1 .left), r .before .before .before .sized-line .ensures .1)
 
 returns-4 : tie.Need-returns-4
 returns-4 c =
-    let f = c .before .before .before in
-    next-refused _ _ _ _ (f .before .if1 .left) (answer-refused _ _ (f .read-line .ensures) (c .before .number .given .1))
-
-returns-5 : tie.Need-returns-5
-returns-5 c =
-    let a = c .before .before in
-    let d = a .before .before in
-    next-body _ _ _ _ (d .before .before .before .if1 .left) (line d) (a .octet-at .ensures) (c .before .if2 .left) (c .if3 .left)
+    let n = c .before .before .before in
+    (next-body (there n) _ (sym (says n) ∙ c .if2 .left), line n .sized-line .ensures .1)
 
 pub next-line-spec : {M : Type 1} → statement M
 next-line-spec =
     tie.close
     (tie.spec
+    sized-line-requires
+    enum-told
+    other-refusal-requires
     returns
-    read-line-requires
-    enum-known-number
-    enum-known-count
-    octet-at-requires
+    enum-known-total
+    element-copy-out-if2
     returns-2
+    mul-t17
+    add-t18
+    add-t19
     returns-3
-    returns-4
-    returns-5)
+    returns-4)

@@ -1,13 +1,14 @@
 -- `finish` meets its contract: each way out is a law of `Ends`.
 use Prim.Native.Nat.{_≤_}
-use mathlib.Core.Path.{sym, _∙_, ap}
+use mathlib.Core.Path.{_≡_, sym, _∙_, ap}
 use native.Mathlib.Omega.{arith}
 use borrow.Author.Needs.{needs}
-use Rattle.common.specs.Limits.{mostLines}
+use lib.ListN.{replicate}
+use Rattle.common.specs.Limits.{mostLines, lineRoom}
 use Rattle.reading.specs.Stages.{Ready}
 use Rattle.policy.specs.Table.{end}
-use Rattle.lines.specs.NextLine.{nextValues}
-use Rattle.lines.proofs.FoundLine.{FoundLine, found-line}
+use Rattle.lines.specs.NextLine.{nextValues, numberAt}
+use Rattle.lines.proofs.FoundLine.{FoundLine, found-line, found-number}
 use Rattle.loading.proofs.Ends.{finish-refused, finish-missing, finish-other, finish-unread, finish-count, finish-sum, finish-ended}
 use Rattle.loading.proofs.finish.Statement.{statement}
 use Rattle.loading.proofs.finish.Tie as tie
@@ -21,13 +22,13 @@ abbrev entry : tie.Else1 → tie.Start
 entry e = e .before .before .before .before .before
 
 abbrev tested : tie.After-next-line → tie.Else1
-tested l = l .before .before
+tested l = l .before .before .before .before .before
 
 abbrev line : tie.After-next → tie.After-next-line
 line n = n .before .before
 
 abbrev ours : tie.After-number-at2 → tie.After-next
-ours m = m .before .before .before
+ours m = m .before .before .before .before .before
 
 -- what the stage is ready for
 ready : (e : tie.Else1) → Ready (entry e .args .text .now) end (entry e .args .from)
@@ -36,7 +37,18 @@ ready e = entry e .pre (e .if1 .left)
 -- the end line that was found
 found : (n : tie.After-next) → let a = entry (tested (line n)) .args in
     FoundLine (a .text .now) (a .from .cursor .offset) 0xFF 9 (n .next .given .0 .0) (n .next .given .0 .1 .0)
-found n = found-line _ _ 0xFF 9 (sym (line n .next-line .ensures) ∙ ap nextValues (n .next .given .1))
+found n = found-line _ _ 0xFF 9 (sym (line n .next-line .ensures .0) ∙ ap nextValues (n .next .given .1))
+
+-- its numbers, of its octets in the room
+counted : (m : tie.After-number-at2) → m .before .before .number-at .result ≡ numberAt (found (ours m) .os) 2 2
+counted m =
+    m .before .before .number-at .ensures
+    ∙ found-number (found (ours m)) (replicate lineRoom 0) (line (ours m) .next-line .ensures .1) 2 2 (omega arith)
+
+summed : (m : tie.After-number-at2) → m .number-at2 .result ≡ numberAt (found (ours m) .os) 4 4
+summed m =
+    m .number-at2 .ensures
+    ∙ found-number (found (ours m)) (replicate lineRoom 0) (line (ours m) .next-line .ensures .1) 4 4 (omega arith)
 
 returns : tie.Need-returns
 returns c = c .not-loaded .ensures ∙ finish-refused _ _ (c .before .if1 .taken)
@@ -51,6 +63,9 @@ returns-2 : tie.Need-returns-2
 returns-2 c =
     let e = c .before .before .before in
     c .not-loaded2 .ensures ∙ finish-missing _ _ (e .if1 .left) (ready e) (c .before .before .if2 .taken)
+
+digit-values-requires : tie.Need-digit-values-requires
+digit-values-requires c κs = search needs
 
 next-line-requires : tie.Need-next-line-requires
 next-line-requires c κs = search needs
@@ -98,7 +113,7 @@ returns-3 c =
     let m = c .before .before .before in
     let e = tested (line (ours m)) in
     c .not-loaded5 .ensures
-    ∙ finish-count _ _ (e .if1 .left) (ready e) (found (ours m)) (m .before .number-at .ensures) (c .before .before .if3 .taken)
+    ∙ finish-count _ _ (e .if1 .left) (ready e) (found (ours m)) (counted m) (c .before .before .if3 .taken)
 
 add-not-loaded-5 : tie.Need-add-not-loaded-5
 add-not-loaded-5 c = let b = few (c .before .before .before) in omega arith
@@ -111,7 +126,7 @@ returns-4 c =
     let m = c .before .before .before .before in
     let e = tested (line (ours m)) in
     c .not-loaded6 .ensures
-    ∙ finish-sum _ _ (e .if1 .left) (ready e) (found (ours m)) (m .number-at2 .ensures) (c .before .before .if4 .taken)
+    ∙ finish-sum _ _ (e .if1 .left) (ready e) (found (ours m)) (summed m) (c .before .before .if4 .taken)
 
 add-ended : tie.Need-add-ended
 add-ended c = let b = few (c .before .before .before) in omega arith
@@ -127,8 +142,8 @@ returns-5 c =
     let l = o .before .before in
     let e = tested l in
     c .not-loaded3 .ensures
-    ∙ finish-other _ _ (e .if1 .left) (ready e) (l .before .if2 .left)
-    (sym (l .next-line .ensures) ∙ ap nextValues (o .enum-told .given .1))
+    ∙ finish-other _ _ (e .if1 .left) (ready e) (l .before .before .before .before .if2 .left)
+    (sym (l .next-line .ensures .0) ∙ ap nextValues (o .enum-told .given .1))
 
 returns-6 : tie.Need-returns-6
 returns-6 c =
@@ -136,7 +151,7 @@ returns-6 c =
     let l = n .before .before in
     let e = tested l in
     c .not-loaded4 .ensures
-    ∙ finish-unread _ _ (e .if1 .left) (ready e) _ (sym (l .next-line .ensures) ∙ ap nextValues (n .number .given .1))
+    ∙ finish-unread _ _ (e .if1 .left) (ready e) _ (sym (l .next-line .ensures .0) ∙ ap nextValues (n .number .given .1))
 
 returns-7 : tie.Need-returns-7
 returns-7 c =
@@ -144,8 +159,8 @@ returns-7 c =
     let m = f .before .before in
     let e = tested (line (ours m)) in
     c .ended .ensures
-    ∙ finish-ended _ _ (e .if1 .left) (ready e) (found (ours m)) (m .before .number-at .ensures) (f .before .if3 .left)
-    (m .number-at2 .ensures)
+    ∙ finish-ended _ _ (e .if1 .left) (ready e) (found (ours m)) (counted m) (f .before .if3 .left)
+    (summed m)
     (f .if4 .left)
 
 pub finish-spec : {M : Type 1} → statement M
@@ -157,6 +172,7 @@ finish-spec =
     add-not-loaded
     not-loaded-requires-2
     returns-2
+    digit-values-requires
     next-line-requires
     enum-told
     add-not-loaded-2

@@ -1,28 +1,16 @@
--- `digit_value` meets its contract: each way out is a case of the digits.
-use mathlib.Core.Path.{sym}
-use native.Mathlib.Omega.{arith}
+-- `digit_value` meets its contract.
 use borrow.Author.Needs.{needs}
-use Rattle.octets.specs.LineLaws.{value-below, value-number, value-between, value-letter, value-above}
 use Rattle.octets.proofs.digit_value.Statement.{statement}
 use Rattle.octets.proofs.digit_value.Tie as tie
 
+digit-values-requires : tie.Need-digit-values-requires
+digit-values-requires c κs = search needs
+
+looked-up-requires : tie.Need-looked-up-requires
+looked-up-requires c κs = search needs
+
 returns : tie.Need-returns
-returns c = sym (value-below _ (omega arith))
-
-returns-2 : tie.Need-returns-2
-returns-2 c = sym (value-number _ (omega arith) (omega arith))
-
-returns-3 : tie.Need-returns-3
-returns-3 c = sym (value-between _ (omega arith) (omega arith))
-
-sub-result : tie.Need-sub-result
-sub-result c = search needs
-
-returns-4 : tie.Need-returns-4
-returns-4 c = sym (value-letter _ (omega arith) (omega arith))
-
-returns-5 : tie.Need-returns-5
-returns-5 c = sym (value-above _ (omega arith))
+returns c = c .looked-up .ensures
 
 pub digit-value-spec : {M : Type 1} → statement M
-digit-value-spec = tie.close (tie.spec returns returns-2 returns-3 sub-result returns-4 returns-5)
+digit-value-spec = tie.close (tie.spec digit-values-requires looked-up-requires returns)

@@ -1,28 +1,57 @@
 -- `read_line` meets its contract. The loop's invariant is `Run`: the octets read so far, and what is left of the text, are the line.
-use Prim.Native.Nat.{ℕ, _-_, _+_, _*_, _%_, _^_, _<_}
+use Prim.Native.Nat.{ℕ, _-_, _+_, _*_, _%_, _^_, _≤_, _<_}
 use mathlib.Core.Path.{_≡_, sym, _∙_, ap, subst, subst₂}
-use mathlib.Core.Logic.{inl, inr, ⊎-elim}
+use mathlib.Core.Logic.{inl, inr, ⊎-elim, _≢_}
 use native.Mathlib.Omega.{arith}
 use borrow.Author.Needs.{needs}
 use lib.ListN.{length}
 use Rattle.common.specs.Lists.{at}
 use Rattle.octets.specs.Line.{digitValue, octet}
+use Rattle.octets.specs.LineLaws.{not-end}
 use Rattle.octets.specs.Answers.{framedValues}
 use Rattle.octets.proofs.Running.{Run, run-start, run-more, run-out, run-other, run-short, run-other₂, run-end}
 use Rattle.octets.proofs.read_line.Statement.{statement}
 use Rattle.octets.proofs.read_line.Tie as tie
 
 abbrev Inv-loop : tie.InvT-loop
-Inv-loop text offset i₀ n₀ first₀ sum₀ total₀ i n first sum total = Run text offset i n first sum total
+Inv-loop text offset digits i₀ n₀ first₀ sum₀ total₀ i n first sum total = Run text offset i n first sum total
 
 abbrev μ-loop : tie.MeasureT-loop
-μ-loop text offset i₀ n₀ first₀ sum₀ total₀ i n first sum total = length text - i
+μ-loop text offset digits i₀ n₀ first₀ sum₀ total₀ i n first sum total = length text - i
+
+-- the loop's head from the first look-up, and the function's entry from there
+abbrev head : tie.After-looked-up Inv-loop μ-loop → tie.At-loop Inv-loop μ-loop
+head l = l .before .before .before .before
+
+abbrev entry : tie.At-loop Inv-loop μ-loop → tie.Start Inv-loop μ-loop
+entry h = h .before .before .before
+
+-- the first look-up from the second
+abbrev first-digit : tie.After-looked-up2 Inv-loop μ-loop → tie.After-looked-up Inv-loop μ-loop
+first-digit q = q .before .before .before .before .before
+
+-- the byte there, and whether it is within the text
+abbrev byte : tie.After-looked-up Inv-loop μ-loop → ℕ
+byte l = at (entry (head l) .args .text .now) (head l .loop .i)
+
+within : (l : tie.After-looked-up Inv-loop μ-loop) → head l .loop .i < length (entry (head l) .args .text .now)
+within l = l .before .before .before .loop-test .taken
+
+-- a digit there is no line's end
+digit-there : (l : tie.After-looked-up Inv-loop μ-loop) → l .looked-up .result < 16 → byte l ≢ 10
+digit-there l d = not-end (byte l) (subst (λ (z : ℕ). z < 16) (l .looked-up .ensures) d)
+
+digit-values-requires : tie.Need-digit-values-requires Inv-loop μ-loop
+digit-values-requires c κs = search needs
 
 loop-holds : tie.Need-loop-holds Inv-loop μ-loop
 loop-holds c = run-start _ _
 
 shared-slice-read-a : tie.Need-shared-slice-read-a Inv-loop μ-loop
 shared-slice-read-a c = omega arith
+
+looked-up-requires : tie.Need-looked-up-requires Inv-loop μ-loop
+looked-up-requires c κs = search needs
 
 add-answer-at-end : tie.Need-add-answer-at-end Inv-loop μ-loop
 add-answer-at-end c = omega arith
@@ -32,49 +61,37 @@ answer-at-end-requires c κs = search needs
 
 returns : tie.Need-returns Inv-loop μ-loop
 returns c =
-    let a = c .before .before in
-    let h = a .before .before in
-    c .answer-at-end .ensures ∙ run-end (h .loop .inv) (a .before .loop-test .taken) (c .before .if1 .taken)
-
-digit-value-requires : tie.Need-digit-value-requires Inv-loop μ-loop
-digit-value-requires c κs = search needs
+    let l = c .before .before .before in
+    c .answer-at-end .ensures ∙ run-end (head l .loop .inv) (within l) (c .before .if2 .taken)
 
 returns-2 : tie.Need-returns-2 Inv-loop μ-loop
 returns-2 c =
-    let d = c .before .before in
-    let a = d .before in
-    let h = a .before .before in
-    let e = run-other (h .loop .inv) (a .before .loop-test .taken) (d .if1 .left) (omega arith) in
-    sym (ap (framedValues (h .before .before .args .offset)) e)
+    let l = c .before .before in
+    sym (ap (framedValues (entry (head l) .args .offset)) (run-other (head l .loop .inv) (within l) (c .if2 .left)
+    (subst (λ (z : ℕ). 16 ≤ z) (l .looked-up .ensures) (c .before .if1 .taken))))
 
 add-j : tie.Need-add-j Inv-loop μ-loop
 add-j c = omega arith
 
 returns-3 : tie.Need-returns-3 Inv-loop μ-loop
 returns-3 c =
-    let d = c .before .before .before in
-    let a = d .before in
-    let h = a .before .before in
-    let e = run-short (h .loop .inv) (a .before .loop-test .taken) (d .if1 .left) (omega arith) in
-    sym (ap (framedValues (h .before .before .args .offset)) e)
+    let l = c .before .before in
+    sym (ap (framedValues (entry (head l) .args .offset)) (run-short (head l .loop .inv) (within l) (digit-there l (c .before .if1 .left))
+    (c .if3 .taken)))
 
-shared-slice-read-digit-value : tie.Need-shared-slice-read-digit-value Inv-loop μ-loop
-shared-slice-read-digit-value c = omega arith
+shared-slice-read-looked-up : tie.Need-shared-slice-read-looked-up Inv-loop μ-loop
+shared-slice-read-looked-up c = omega arith
 
-digit-value-requires-2 : tie.Need-digit-value-requires-2 Inv-loop μ-loop
-digit-value-requires-2 c κs = search needs
-
--- where a second byte stands, back to where the first was seen to be no line's end
-abbrev first-byte : tie.Else3 Inv-loop μ-loop → tie.Else1 Inv-loop μ-loop
-first-byte c = c .before .before .before
+looked-up-requires-2 : tie.Need-looked-up-requires-2 Inv-loop μ-loop
+looked-up-requires-2 c κs = search needs
 
 returns-4 : tie.Need-returns-4 Inv-loop μ-loop
 returns-4 c =
-    let d = first-byte (c .before .before .before) in
-    let a = d .before in
-    let h = a .before .before in
-    let e = run-other₂ (h .loop .inv) (a .before .loop-test .taken) (d .if1 .left) (omega arith) (omega arith) in
-    sym (ap (framedValues (h .before .before .args .offset)) e)
+    let q = c .before in
+    let l = first-digit q in
+    let e = q .before .before .before in
+    sym (ap (framedValues (entry (head l) .args .offset)) (run-other₂ (head l .loop .inv) (within l) (digit-there l (e .before .if1 .left))
+    (e .if3 .left) (subst (λ (z : ℕ). 16 ≤ z) (q .looked-up2 .ensures) (c .if4 .taken))))
 
 mul-o : tie.Need-mul-o Inv-loop μ-loop
 mul-o c = omega arith
@@ -104,27 +121,27 @@ loop-again : tie.Need-loop-again Inv-loop μ-loop
 loop-again c =
     let u = c .before in
     let v = u .before .before in
-    let b = v .before .before in
-    let w = b .before .before .before in
-    let a = w .before .before in
-    let h = a .before .before in
-    let s = h .before .before .args .text .now in
+    let q = v .before in
+    let l = first-digit q in
+    let e = q .before .before .before in
+    let h = head l in
+    let s = entry h .args .text .now in
     let i = h .loop .i in
-    let x : w .digit-value .result ≡ digitValue (at s i) = w .digit-value .ensures in
-    let y : v .before .digit-value2 .result ≡ digitValue (at s (i + 1)) = v .before .digit-value2 .ensures in
-    let e : u .wrapping-add-u8 .result ≡ (h .loop .sum + octet (at s i) (at s (i + 1))) % 256 =
+    let x : l .looked-up .result ≡ digitValue (at s i) = l .looked-up .ensures in
+    let y : q .looked-up2 .result ≡ digitValue (at s (i + 1)) = q .looked-up2 .ensures in
+    let z : u .wrapping-add-u8 .result ≡ (h .loop .sum + octet (at s i) (at s (i + 1))) % 256 =
     u .wrapping-add-u8 .ensures ∙ (λ t. (h .loop .sum + (x t * 16 + y t)) % 256) in
-    let f : c .wrapping-add-usize .result ≡ (h .loop .total + octet (at s i) (at s (i + 1))) % 2 ^ 64 =
+    let w : c .wrapping-add-usize .result ≡ (h .loop .total + octet (at s i) (at s (i + 1))) % 2 ^ 64 =
     c .wrapping-add-usize .ensures ∙ (λ t. (h .loop .total + (x t * 16 + y t)) % 2 ^ 64) in
-    subst₂ (λ (z t : ℕ). Run s (h .before .before .args .offset) (i + 2) (h .loop .n + 1) (u .before .if5 .first) z t) (sym e) (sym f)
-    (run-more (h .loop .inv) (u .before .if5 .first) (b .before .if3 .left)
-    (subst (λ (z : ℕ). z < 16) x (b .before .before .if2 .left)) (subst (λ (z : ℕ). z < 16) y (v .if4 .left))
+    subst₂ (λ (z t : ℕ). Run s (entry h .args .offset) (i + 2) (h .loop .n + 1) (u .before .if5 .first) z t) (sym z) (sym w)
+    (run-more (h .loop .inv) (u .before .if5 .first) (e .if3 .left)
+    (subst (λ (z : ℕ). z < 16) x (e .before .if1 .left)) (subst (λ (z : ℕ). z < 16) y (v .if4 .left))
     (⊎-elim (λ f. inl (f .0 .taken, f .1 ∙ (λ t. x t * 16 + y t))) (λ f. inr (f .0 .left, f .1)) (u .before .if5 .came)))
 
 returns-5 : tie.Need-returns-5 Inv-loop μ-loop
 returns-5 c =
     let h = c .before in
-    sym (ap (framedValues (h .before .before .args .offset)) (run-out (h .loop .inv) (omega arith)))
+    sym (ap (framedValues (entry h .args .offset)) (run-out (h .loop .inv) (omega arith)))
 
 pub read-line-spec : {M : Type 1} → statement M
 read-line-spec =
@@ -132,17 +149,18 @@ read-line-spec =
     (tie.spec
     Inv-loop
     μ-loop
+    digit-values-requires
     loop-holds
     shared-slice-read-a
+    looked-up-requires
     add-answer-at-end
     answer-at-end-requires
     returns
-    digit-value-requires
     returns-2
     add-j
     returns-3
-    shared-slice-read-digit-value
-    digit-value-requires-2
+    shared-slice-read-looked-up
+    looked-up-requires-2
     returns-4
     mul-o
     add-o

@@ -17,23 +17,23 @@ use Rattle.reading.specs.Stages.{Reads}
 use Rattle.reading.proofs.AppendedAt.{appendedAt}
 use Rattle.reading.proofs.Partway.{stage, reads-refused}
 use Rattle.reading.proofs.TakenLines.{TakenLines, boundsOf, taken-start, taken-bound, taken-heights, taken-all, taken-refused}
-use Rattle.reading.proofs.TakenLines.{taken-room, taken-few, taken-less, taken-more}
+use Rattle.reading.proofs.TakenLines.{size-fits, taken-room, taken-few, taken-less, taken-more}
 use Rattle.reading.proofs.read_kind.Statement.{statement}
 use Rattle.reading.proofs.read_kind.Tie as tie
 
 abbrev Inv-loop : tie.InvT-loop
-Inv-loop text kind size cursor₀ rules₀ count₀ least-key₀ heights₀ cursor rules count least-key heights =
+Inv-loop text kind size cursor₀ rules₀ count₀ least-key₀ heights₀ digits cursor rules count least-key heights =
     TakenLines text kind (stage cursor₀ rules₀) cursor rules count least-key heights
 
 abbrev μ-loop : tie.MeasureT-loop
-μ-loop text kind size cursor₀ rules₀ count₀ least-key₀ heights₀ cursor rules count least-key heights = length text - cursor .offset
+μ-loop text kind size cursor₀ rules₀ count₀ least-key₀ heights₀ digits cursor rules count least-key heights = length text - cursor .offset
 
 -- the function's entry from the loop; the loop from a line that was judged, and from one that is taken
 abbrev entry : tie.At-loop Inv-loop μ-loop → tie.Start Inv-loop μ-loop
-entry h = h .before .before .before .before .before .before
+entry h = h .before .before .before .before .before .before .before
 
 abbrev judged : tie.After-judged-line Inv-loop μ-loop → tie.At-loop Inv-loop μ-loop
-judged l = l .before .before
+judged l = l .before .before .before
 
 abbrev turn : tie.After-row Inv-loop μ-loop → tie.At-loop Inv-loop μ-loop
 turn q = judged (q .before .before)
@@ -41,17 +41,20 @@ turn q = judged (q .before .before)
 returns : tie.Need-returns Inv-loop μ-loop
 returns c = reads-refused _ _ _ (c .if1 .taken)
 
+digit-values-requires : tie.Need-digit-values-requires Inv-loop μ-loop
+digit-values-requires c κs = search needs
+
 loop-holds : tie.Need-loop-holds Inv-loop μ-loop
 loop-holds c =
-    let e = c .before in
+    let e = c .before .before in
     let s = e .before .before .before .before in
     taken-start _ (s .pre .0) _ (e .if1 .left) (s .pre .1 (e .if1 .left))
 
 judged-line-requires : tie.Need-judged-line-requires Inv-loop μ-loop
 judged-line-requires c κs =
-    let h = c .before in
+    let h = c .before .before in
     let w = entry h .pre .0 in
-    (w .octet, taken-bound w (h .loop .inv), taken-heights w (h .loop .inv))
+    (w .octet, taken-bound w (h .loop .inv), taken-heights w (h .loop .inv), size-fits w, h .before .digit-values .ensures)
 
 enum-told : tie.Need-enum-told Inv-loop μ-loop
 enum-told c = search needs
@@ -248,6 +251,7 @@ read-kind-spec =
     Inv-loop
     μ-loop
     returns
+    digit-values-requires
     loop-holds
     judged-line-requires
     enum-told
