@@ -21,12 +21,7 @@ drop-two s i l =
     let e : i + 1 + 1 ≡ i + 2 = omega arith in
     drop-one s i (omega arith) ∙ ap (λ (t : List ℕ). at s i ∷ t) (drop-one s (i + 1) l ∙ ap (λ (k : ℕ). at s (i + 1) ∷ drop k s) e)
 
--- the numbers of a list that another follows, and those of one that zeros follow
-pub append-at : (l m : List ℕ) (k : ℕ) → k < length l → at (l ++ m) k ≡ at l k
-append-at [] m k h = let z : ⊥ = omega arith in absurd z
-append-at (x ∷ l) m zero h = refl
-append-at (x ∷ l) m (suc k) h = append-at l m k (omega arith)
-
+-- the numbers of a list that zeros follow
 pub zeros-at : (l m : List ℕ) → ((j : ℕ) → at m j ≡ 0) → (k : ℕ) → at (l ++ m) k ≡ at l k
 zeros-at [] m h k = h k
 zeros-at (x ∷ l) m h zero = refl

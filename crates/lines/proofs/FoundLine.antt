@@ -10,11 +10,12 @@ use lib.ListN.{length, getD, drop, drop-of-length-le}
 use lib.Dec.{eqb}
 use borrow.Author.Tests.{lt-ltb, le-ltb, eqb-true, eqb-false}
 use Rattle.common.specs.Lists.{at}
-use Rattle.common.specs.ListLaws.{append-at, table-same}
+use Rattle.common.specs.ListLaws.{table-same}
 use Rattle.common.specs.Refusals.{wrongKind}
 use Rattle.octets.specs.Line.{Framed, refused, octets, kindOctet, total, lineOf, frame}
 use Rattle.octets.specs.Number.{number}
 use Rattle.octets.specs.Answers.{HoldsLine}
+use Rattle.octets.specs.AnswerLaws.{held-octet}
 use Rattle.octets.specs.LineLaws.{accepted, refused-is}
 use Rattle.octets.specs.WritingLaws.{Octets, octets-of-pairs}
 use Rattle.lines.specs.declared.Next.{Next}
@@ -36,8 +37,7 @@ pub record FoundLine (text : List ℕ) (offset kind size next sum : ℕ) : Type 
 module _ {text : List ℕ} {offset kind size next sum : ℕ} (f : FoundLine text offset kind size next sum)
     (before : List ℕ) {after : List ℕ} (h : HoldsLine size (frame (drop offset text)) before after) where
   pub found-octet : (k : ℕ) → k < size → at after k ≡ at (f .os) k
-  found-octet k l =
-      ap (λ (r : List ℕ). at r k) (h (f .os) (f .framed) (f .sized)) ∙ append-at (f .os) _ k (let s = f .sized in omega arith)
+  found-octet = held-octet before h (f .framed) (f .sized)
 
   pub found-number : (k n : ℕ) → k + n ≤ size → numberAt after k n ≡ numberAt (f .os) k n
   unfolding numberAt

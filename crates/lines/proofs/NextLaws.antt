@@ -11,7 +11,7 @@ use lib.Seq.{getD-drop}
 use lib.Dec.{ltb, eqb}
 use borrow.Author.Tests.{lt-ltb, le-ltb, eq-eqb, ne-eqb, eqb-true}
 use Rattle.common.specs.Lists.{at, table}
-use Rattle.common.specs.ListLaws.{append-at, zeros-at, zero-at}
+use Rattle.common.specs.ListLaws.{zeros-at, zero-at}
 use Rattle.common.specs.Refusals.{wrongKind}
 use Rattle.octets.specs.Line.{Framed, refused, octets, kindOctet, total, frame}
 use Rattle.octets.specs.LineLaws.{accepted, refused-is, next-line, octet-at}
@@ -70,10 +70,6 @@ module _ {text : List ℕ} {offset size sum : ℕ} (z : OfSize text offset size 
   pub of-size-next : offset + 2 * size + 1 ≤ length text
   of-size-next =
       let n = next-line (drop offset text) (z .framed) .0 in let s = z .sized in omega (arith, length-drop offset text)
-
-  -- its octets in a room
-  pub of-size-at : (before : List ℕ) {after : List ℕ} → after ≡ z .os ++ drop size before → (k : ℕ) → k < size → at after k ≡ at (z .os) k
-  of-size-at before e k l = ap (λ (r : List ℕ). at r k) e ∙ append-at (z .os) _ k (let s = z .sized in omega arith)
 
   -- its numbers, where the room was empty
   pub of-size-row : (room : ℕ) {after : List ℕ} → after ≡ z .os ++ drop size (replicate room 0)

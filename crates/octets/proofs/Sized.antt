@@ -8,12 +8,12 @@ use mathlib.Core.Option.{none, some}
 use native.Mathlib.Omega.{arith}
 use native.Mathlib.Decide.{decLt, ℕ-discrete}
 use lib.Bits.{bitOr, or-lt, or-add-and, and-le-l, and-le-r}
-use lib.ListN.{length, drop, set, length-append, length-set}
+use lib.ListN.{length, drop, set, length-append, length-set, List·getD-append}
 use lib.Seq.{set-at, append-snoc}
 use lib.Dec.{ltb, eqb}
 use borrow.Author.Tests.{lt-ltb, le-ltb, ne-eqb, eq-eqb}
 use Rattle.common.specs.Lists.{at}
-use Rattle.common.specs.ListLaws.{drop-one, drop-two, append-at}
+use Rattle.common.specs.ListLaws.{drop-one, drop-two}
 use Rattle.octets.specs.Line.{digitValue, octet, pairs, octetsOf, total, ended, lineOf}
 use Rattle.octets.specs.Line.{Framed, refused, octets, judged, frame}
 use Rattle.octets.specs.LineLaws.{next-line}
@@ -158,7 +158,7 @@ module _ {s : List ℕ} {offset n plain : ℕ} {before room : List ℕ} (p : Par
           where
             first-octet : 0 < n → at room 0 ≡ at (p .os) 0
             first-octet h =
-                ap (λ (r : List ℕ). at r 0) (p .held) ∙ append-at (p .os) (drop n before) 0 (let c = p .count in omega arith)
+                ap (λ (r : List ℕ). at r 0) (p .held) ∙ List·getD-append (p .os) (drop n before) 0 0 (let c = p .count in omega arith)
         go (no h) =
             let c = p .count in
             let l : length (p .os) ≤ 0 = omega arith in
@@ -206,7 +206,8 @@ sized-none s offset size before =
       bad = λ l. absurd (omega arith);
     }
 
-module _ {s : List ℕ} {offset size n marks sum plain : ℕ} {before room : List ℕ} (r : Sized s offset size n marks sum plain before room) where
+module _ {s : List ℕ} {offset size n marks sum plain : ℕ} {before room : List ℕ}
+    (r : Sized s offset size n marks sum plain before room) where
   pub sized-more : n < size → offset + 2 * size < length s → size ≤ length before
       → {x y o t : ℕ} → x ≡ digitValue (at s (offset + 2 * n)) → y ≡ digitValue (at s (offset + 2 * n + 1)) → o ≡ (x * 16 + y) % 256
       → t ≡ (sum + o) % 256

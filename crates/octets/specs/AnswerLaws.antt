@@ -1,13 +1,14 @@
 -- What an answer of `read_line` says of the line, by its number and values; no other answer has them. The same of `sized_line`.
-use Prim.Native.Nat.{ℕ, _+_, _*_}
+use Prim.Native.Nat.{ℕ, _+_, _*_, _<_}
 use mathlib.Core.Path.{_≡_, refl, sym, _∙_, ap}
 use mathlib.Core.List.{List}
 use mathlib.Core.Option.{some}
 use native.Mathlib.Omega.{arith}
-use lib.ListN.{length}
+use lib.ListN.{length, List·getD-append}
+use Rattle.common.specs.Lists.{at}
 use Rattle.octets.specs.Line.{Framed, refused, octets, total, frame}
 use Rattle.octets.specs.LineLaws.{refused-is}
-use Rattle.octets.specs.Answers.{LineValues, lineValues, framedValues, sizedTotal}
+use Rattle.octets.specs.Answers.{LineValues, lineValues, framedValues, sizedTotal, HoldsLine}
 use Rattle.octets.specs.declared.Line.{Line}
 use Rattle.octets.specs.declared.Line.the-variants.{Refused, Octets}
 use Rattle.octets.specs.declared.SizedLine.{SizedLine}
@@ -69,3 +70,8 @@ same-sized (sized.Octets s) (sized.Octets t) e = ap sized.Octets (go e)
   where
     go : some s ≡ some t → s ≡ t
     go e = cc
+
+-- the octets of a line of the size, in the room that holds it
+pub held-octet : {size : ℕ} {f : Framed} (before : List ℕ) {after os : List ℕ} → HoldsLine size f before after → f ≡ octets os
+    → length os ≡ size → (k : ℕ) → k < size → at after k ≡ at os k
+held-octet before {os = os} h e s k l = ap (λ (r : List ℕ). at r k) (h os e s) ∙ List·getD-append os _ 0 k (omega arith)

@@ -7,10 +7,11 @@ use borrow.Author.Needs.{needs}
 use Rattle.common.specs.Lists.{at}
 use Rattle.octets.specs.Line.{kindOctet, frame}
 use Rattle.octets.specs.Answers.{sizedTotal, totalOfSize}
+use Rattle.octets.specs.AnswerLaws.{held-octet}
 use Rattle.lines.specs.Judging.{judgedRow}
 use Rattle.lines.proofs.FoundLine.{sum-most}
 use Rattle.lines.proofs.JudgedLine.{says-other, says-refused, of-body}
-use Rattle.lines.proofs.NextLaws.{OfSize, of-size, of-size-some, of-size-next, of-size-at, of-size-row, next-other, next-body}
+use Rattle.lines.proofs.NextLaws.{OfSize, of-size, of-size-some, of-size-next, of-size-row, next-other, next-body}
 use Rattle.lines.proofs.NextLaws.{left-refused, left-other}
 use Rattle.lines.proofs.judged_line.Statement.{statement}
 use Rattle.lines.proofs.judged_line.Tie as tie
@@ -35,8 +36,7 @@ left t = sym (ap sizedTotal (t .enum-told .given .1)) ∙ t .before .before .siz
 -- the octet that says the kind
 says : (n : tie.After-total) → at (line n .sized-line .last .1 .1 .1 .1 .0) 1 ≡ kindOctet (there n .os)
 says n =
-    of-size-at (there n) _ (line n .sized-line .ensures .1 _ (there n .framed) (there n .sized)) 1
-    (let h = of-size-some (there n) in omega arith)
+    held-octet _ (line n .sized-line .ensures .1) (there n .framed) (there n .sized) 1 (let h = of-size-some (there n) in omega arith)
 
 sized-line-requires : tie.Need-sized-line-requires
 sized-line-requires c κs = search needs

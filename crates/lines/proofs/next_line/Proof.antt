@@ -7,7 +7,8 @@ use borrow.Author.Needs.{needs}
 use Rattle.common.specs.Lists.{at}
 use Rattle.octets.specs.Line.{kindOctet, frame}
 use Rattle.octets.specs.Answers.{sizedTotal, totalOfSize}
-use Rattle.lines.proofs.NextLaws.{OfSize, of-size, of-size-some, of-size-next, of-size-at, next-other, next-body}
+use Rattle.octets.specs.AnswerLaws.{held-octet}
+use Rattle.lines.proofs.NextLaws.{OfSize, of-size, of-size-some, of-size-next, next-other, next-body}
 use Rattle.lines.proofs.NextLaws.{left-refused, left-other}
 use Rattle.lines.proofs.next_line.Statement.{statement}
 use Rattle.lines.proofs.next_line.Tie as tie
@@ -31,8 +32,7 @@ left t = sym (ap sizedTotal (t .enum-told .given .1)) ∙ t .before .before .siz
 -- the octet that says the kind
 says : (n : tie.After-total) → at (line n .sized-line .last .1 .1 .1 .1 .0) 1 ≡ kindOctet (there n .os)
 says n =
-    of-size-at (there n) _ (line n .sized-line .ensures .1 _ (there n .framed) (there n .sized)) 1
-    (let h = of-size-some (there n) in omega arith)
+    held-octet _ (line n .sized-line .ensures .1) (there n .framed) (there n .sized) 1 (let h = of-size-some (there n) in omega arith)
 
 sized-line-requires : tie.Need-sized-line-requires
 sized-line-requires c κs = search needs
