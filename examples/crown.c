@@ -4,6 +4,7 @@
 #include <string.h>
 
 #include "case_access.h"
+#include "show.h"
 
 enum { CROWN, ANA, BEN };         /* objects */
 enum { DESIGNED_BY, CHECKED_BY }; /* labels */
@@ -18,52 +19,6 @@ static access_record *fresh(void)
     return &record;
 }
 
-/* Loads the bundle; says so and answers 0 when it is refused. */
-static int load(access_record *into, size_t length)
-{
-    uint64_t result = access_load(into, (const uint8_t *)bundle, length);
-    unsigned number = access_number(result);
-
-    if (number != ACCESS_ACCEPTED)
-        printf("the bundle is refused (%u), line %u: %s\n", number, (unsigned)access_value(result), access_number_text(number));
-    return number == ACCESS_ACCEPTED;
-}
-
-static void decided(const char *what, access_decision decision)
-{
-    int p, members = 0;
-
-    printf("%-34s ", what);
-    if (decision.number != ACCESS_ACCEPTED) {
-        const char *word = decision.number == ACCESS_NO_SET ? "denied" : "refused";
-        printf("%s (%u), evaluations %u\n", word, decision.number, decision.evaluations);
-        return;
-    }
-    printf("granted {");
-    for (p = 0; p < 20; p++)
-        if (decision.set >> p & 1)
-            printf(members++ ? ", %d" : "%d", p);
-    printf("}, evaluations %u\n", decision.evaluations);
-}
-
-static void answered(const char *what, access_verdict verdict)
-{
-    printf("%-34s %s\n", what, verdict.number != ACCESS_ACCEPTED ? "refused" : verdict.yes ? "yes" : "no");
-}
-
-static void edited(const char *what, unsigned number)
-{
-    printf("%-34s %s\n", what, access_number_text(number));
-}
-
-static void proposed(const char *what, unsigned number)
-{
-    if (number == ACCESS_ACCEPTED)
-        printf("%-34s accepted\n", what);
-    else
-        printf("%-34s refused (%u): %s\n", what, number, access_number_text(number));
-}
-
 /* Prints the bundle's lines of one kind. */
 static void show_lines(const char *kind)
 {
@@ -72,12 +27,6 @@ static void show_lines(const char *kind)
     for (line = bundle; *line != 0; line = strchr(line, '\n') + 1)
         if (strncmp(line + 2, kind, 2) == 0)
             printf("  %.*s\n", (int)strcspn(line, "\n"), line);
-}
-
-/* The number of the set that has this one member; that of a larger set is the sum over its members. */
-static uint32_t alone(unsigned principal)
-{
-    return (uint32_t)1 << principal;
 }
 
 /* Grants that a design station proposes. Principal 1 needs 2 and excludes 0; for Ben principal 1 alone is enabled. */
@@ -96,7 +45,7 @@ int main(void)
 {
     uint64_t result;
 
-    if (!load(&loaded, fread(bundle, 1, sizeof bundle - 1, stdin)))
+    if (!load(&loaded, bundle, fread(bundle, 1, sizeof bundle - 1, stdin)))
         return 1;
     decided("(a) Ana, method 0, lazy", access_lazy(fresh(), 0, CROWN, ANA));
     decided("(b) Ana, method 0, eager", access_eager(fresh(), 0, CROWN, ANA));
@@ -123,7 +72,7 @@ int main(void)
     printf("written: %u bytes; edges and end are now\n", (unsigned)access_value(result));
     show_lines("03");
     show_lines("FF");
-    if (!load(&record, access_value(result)))
+    if (!load(&record, bundle, access_value(result)))
         return 1;
     decided("loaded again: Ana, method 0, lazy", access_lazy(&record, 0, CROWN, ANA));
     edited("add edge (1, 0, 1)", access_add(&record, CHECKED_BY, CROWN, ANA));

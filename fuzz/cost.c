@@ -2,6 +2,8 @@
 
 #include <string.h>
 
+#include "formulas.h"
+
 static const uint64_t MOST = (uint64_t)1 << 40;
 
 /* The smaller of a cost and the most that is told apart. */
@@ -24,18 +26,15 @@ static unsigned degree(const struct bundle *bundle, unsigned label, unsigned end
     return most;
 }
 
-/* A bound on the steps of evaluating one formula, from those of the formulas before it. */
+/* A bound on the steps of evaluating one formula at any vertex, from those of the formulas before it: the reference goes along every walk
+ * of edges that the formula's steps follow, and evaluates each part anew wherever it is asked for, that of an op 9 or 11 too. */
 static uint64_t formula_cost(const struct bundle *bundle, const uint8_t *octets, const uint64_t *costs, unsigned adds)
 {
     unsigned op = octets[2], a = octets[3], b = octets[4];
 
-    if (op < 4)
-        return 1;
-    if (op == 4)
-        return 1 + costs[a];
-    if (op < 7)
-        return capped(1 + costs[a] + costs[b]);
-    return capped(count_of(bundle, EDGE) + adds + (degree(bundle, a, op - 7) + adds) * costs[b]);
+    if (op == FORWARD || op == BACKWARD)
+        return capped(count_of(bundle, EDGE) + adds + (degree(bundle, a, op - FORWARD) + adds) * costs[b]);
+    return capped(1 + (a_is_part(op) ? costs[a] : 0) + (b_is_part(op) ? costs[b] : 0));
 }
 
 /* A bound on the steps of evaluating every principal's formula once. */

@@ -286,6 +286,7 @@ static void keep_affordable(struct slice all)
     uint64_t budget = one_in(64) ? 10000000 : 300000;
 
     bundle_read(&lines, text);
+    tally_formulas(&lines);
     calls = placed(&calls_area, (struct slice){kept, affordable(&lines, all, budget, kept)});
     tally_dropped((all.length - calls.length) / CALL);
 }

@@ -309,7 +309,7 @@ static void check_altered_record(void)
     memset(&other, 0, sizeof other);
     memset((uint8_t *)&altered + FIRST_BOOL, 0, BOOLS);
     for (i = 1 + below(2); i; i--)
-        ((uint8_t *)&altered)[below(FIRST_BOOL)] = (uint8_t)(one_in(2) ? below(4) : random_any());
+        ((uint8_t *)&altered)[below(FIRST_BOOL)] = (uint8_t)(one_in(2) ? below(one_in(2) ? 4 : 13) : random_any());
     before = altered;
     value = access_write(&altered, bytes, sizeof bytes);
     must(value >> 32 == 19 ? (uint32_t)value == 0 : value >> 32 == 0, "write: neither 0 nor 19 in room for any bundle");

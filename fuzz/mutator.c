@@ -2,6 +2,7 @@
 #include <stdlib.h>
 #include <string.h>
 
+#include "formulas.h"
 #include "random.h"
 #include "sets.h"
 
@@ -42,7 +43,7 @@ static uint8_t an_object(void)
 /* Another value for an octet: near the old one, small, at a limit, or any. */
 static uint8_t another(uint8_t old)
 {
-    static const uint8_t limits[] = {0, 1, 8, 9, 15, 16, 19, 20, 31, 32, 63, 64, 127, 128, 254, 255};
+    static const uint8_t limits[] = {0, 1, 3, 4, 8, 9, 11, 12, 15, 16, 19, 20, 31, 32, 63, 64, 127, 128, 254, 255};
     unsigned objects = objects_of(&bundle);
 
     switch (below(6)) {
@@ -75,15 +76,43 @@ static void fill_privileges(uint8_t *octets)
     }
 }
 
-/* A formula whose parts are among those before it, mostly the last ones so that heights grow. */
-static void fill_formula(uint8_t *body)
+/* A label: that of an edge, one of the first few, or any. */
+static uint8_t a_label(void)
+{
+    const struct line *edge = line_of(&bundle, EDGE, below((unsigned)count_of(&bundle, EDGE)));
+
+    return edge && one_in(2) ? edge->octets[2] : (uint8_t)below(one_in(4) ? LABELS : 3);
+}
+
+/* A slot, mostly one of two so that they meet. */
+static uint8_t a_slot(void)
+{
+    return named(one_in(3) ? SLOTS : 2);
+}
+
+/* An op for a formula behind so many others, sometimes one just past the last. */
+static uint8_t an_op(size_t own)
+{
+    static const uint8_t plain[] = {0, 1, 2, 3, HERE};
+
+    return own ? named(OPS) : plain[below(sizeof plain)];
+}
+
+/* A formula of an op whose parts are among those before it: where it is to be on top the last one, and often the last but one. */
+static void fill_op(uint8_t *body, uint8_t op, bool on_top)
 {
     size_t own = count_of(&bundle, FORMULA);
-    uint8_t op = (uint8_t)below(own ? 9 : 4), a = named(own), b = one_in(2) && own ? (uint8_t)(own - 1) : named(own);
+    uint8_t a = on_top && own > 1 && one_in(2) ? (uint8_t)(own - 2) : named(own), b = on_top && own ? (uint8_t)(own - 1) : named(own);
 
     body[0] = op;
-    body[1] = op < 3 ? 0 : op == 3 ? named(16) : op > 6 ? (uint8_t)below(one_in(4) ? 16 : 3) : op == 4 ? b : a;
-    body[2] = op < 5 ? 0 : b;
+    body[1] = op < 3 ? 0 : op == 3 ? named(16) : op == NOT ? b : op < FORWARD ? a : op < KEEP ? a_label() : a_slot();
+    body[2] = b_is_part(op) ? b : 0;
+}
+
+/* A formula, mostly on top of the last one so that heights grow. */
+static void fill_formula(uint8_t *body)
+{
+    fill_op(body, an_op(count_of(&bundle, FORMULA)), one_in(2));
 }
 
 /* Two different numbers below n, mostly in rising order. */
@@ -106,7 +135,7 @@ static void fill_body(unsigned kind, uint8_t *body)
         body[0] = an_object(), body[1] = (uint8_t)random_any(), body[2] = (uint8_t)random_any();
         break;
     case EDGE:
-        body[0] = (uint8_t)below(one_in(4) ? 16 : 3), body[1] = an_object(), body[2] = an_object();
+        body[0] = a_label(), body[1] = an_object(), body[2] = an_object();
         break;
     case FORMULA:
         fill_formula(body);
@@ -149,16 +178,79 @@ static void remove_line(size_t place)
     bundle.count--;
 }
 
-/* Adds a suitable line of a kind behind the others of that kind. */
+/* Puts a line behind the others of its kind. */
+static void append_line(struct line line)
+{
+    size_t place = bundle.count;
+
+    while (place > 0 && kind_of(&bundle.lines[place - 1]) > kind_of(&line))
+        place--;
+    insert_line(place, line);
+}
+
+/* Adds a suitable line of a kind. */
 static void add_line(unsigned kind)
 {
     struct line line = {.octets = {0, (uint8_t)kind}, .count = 3 + body_length(kind)};
-    size_t place = bundle.count;
 
     fill_body(kind, line.octets + 2);
-    while (place > 0 && kind_of(&bundle.lines[place - 1]) > kind)
-        place--;
-    insert_line(place, line);
+    append_line(line);
+}
+
+/* Adds a formula of an op on top of the last one; its slot is the given one where it has one. */
+static void add_on_top(uint8_t op, uint8_t slot)
+{
+    struct line line = {.octets = {0, FORMULA}, .count = 3 + body_length(FORMULA)};
+
+    fill_op(line.octets + 2, op, true);
+    if (op >= KEEP)
+        line.octets[3] = slot;
+    append_line(line);
+}
+
+/* The body of a line of a kind by its place among them, to be changed, or none. */
+static uint8_t *body_of(unsigned kind, size_t number)
+{
+    size_t i;
+
+    for (i = 0; i < bundle.count; i++)
+        if (kind_of(&bundle.lines[i]) == kind && number-- == 0)
+            return bundle.lines[i].octets + 2;
+    return NULL;
+}
+
+/* Adds formulas that ask for a slot: whether it holds here, what is true at its vertex, or whether it holds here beside its op 9. */
+static void add_asking(uint8_t slot)
+{
+    switch (below(5)) {
+    case 0:
+    case 1:
+        add_on_top(HERE, slot);
+        break;
+    case 2:
+    case 3:
+        add_on_top((uint8_t)(1 + below(2)), 0), add_on_top(AT, slot);
+        break;
+    default:
+        add_on_top(HERE, slot), add_on_top(KEEP, slot), add_on_top(HERE, slot), add_on_top((uint8_t)(5 + below(2)), 0);
+    }
+}
+
+/* Adds formulas that keep a vertex, or two, mostly go elsewhere, and ask for it there. */
+static void add_naming(void)
+{
+    static const uint8_t between[] = {FORWARD, FORWARD, FORWARD, BACKWARD, BACKWARD, NOT, 5, 6, KEEP, AT};
+    uint8_t slot = a_slot();
+    unsigned kept, steps;
+
+    add_asking(slot);
+    for (kept = 1 + below(2); kept > 0; kept--) {
+        for (steps = below(4); steps > 0; steps--)
+            add_on_top(between[below(sizeof between)], one_in(2) ? slot : a_slot());
+        add_on_top(KEEP, one_in(4) ? a_slot() : slot);
+    }
+    if (one_in(3))
+        add_on_top((uint8_t)(FORWARD + below(2)), 0);
 }
 
 /* Adds many lines of a kind, now and then up to its limit and one more. */
@@ -266,13 +358,23 @@ static uint8_t brought(uint8_t number, size_t n)
     return n ? (uint8_t)(number % n) : number;
 }
 
-/* Brings the numbers of a formula into range, as the one at a place among the formulas. */
-static void repair_formula(uint8_t *body, size_t own)
+/* A part's number brought below the formula's own, and down to one that isn't as high as a formula may be. */
+static uint8_t brought_part(uint8_t number, size_t own, const unsigned *heights)
 {
-    uint8_t op = body[0] = brought(body[0], own ? 9 : 4);
+    number = brought(number, own);
+    while (number > 0 && heights[number] >= HIGHEST)
+        number--;
+    return number;
+}
 
-    body[1] = op < 3 ? 0 : op == 3 || op > 6 ? brought(body[1], 16) : brought(body[1], own);
-    body[2] = op < 5 ? 0 : brought(body[2], own);
+/* Brings the numbers of a formula into range, as the one at a place among the formulas, whose heights are known up to it. */
+static void repair_formula(uint8_t *body, size_t own, const unsigned *heights)
+{
+    uint8_t op = body[0] = own ? brought(body[0], OPS) : body[0] == HERE ? HERE : brought(body[0], NOT);
+    uint8_t a = body[1], b = body[2];
+
+    body[1] = op < 3 ? 0 : a_is_part(op) ? brought_part(a, own, heights) : brought(a, op < KEEP ? LABELS : SLOTS);
+    body[2] = b_is_part(op) ? brought_part(b, own, heights) : 0;
 }
 
 /* Brings two numbers below n, the first below the second where that is asked for. */
@@ -303,16 +405,24 @@ static void repair_body(unsigned kind, uint8_t *body)
         body[0] = brought(body[0], 2);
 }
 
-/* Brings the numbers of all lines into range. */
+/* Brings the numbers of all lines into range; in one bundle in eight heights aren't looked at. */
 static void repair_numbers(void)
 {
+    unsigned heights[256] = {0};
     size_t i, formulas = 0;
+    bool any_height = one_in(8);
 
-    for (i = 0; i < bundle.count; i++)
-        if (kind_of(&bundle.lines[i]) == FORMULA)
-            repair_formula(bundle.lines[i].octets + 2, formulas++);
-        else
-            repair_body(kind_of(&bundle.lines[i]), bundle.lines[i].octets + 2);
+    for (i = 0; i < bundle.count; i++) {
+        uint8_t *body = bundle.lines[i].octets + 2;
+        if (kind_of(&bundle.lines[i]) != FORMULA) {
+            repair_body(kind_of(&bundle.lines[i]), body);
+            continue;
+        }
+        repair_formula(body, formulas, heights);
+        if (formulas < 256 && !any_height)
+            heights[formulas] = height_over(body, heights);
+        formulas++;
+    }
 }
 
 /* Takes out lines that name one thing twice, and those of another length than their kind's. */
@@ -329,7 +439,41 @@ static void drop_misfits(void)
     }
 }
 
-/* Mostly puts right what the changes broke: order, or everything. */
+/* Adds a formula that is one too high, mostly by ops 9 and 11, above those that it is made of. */
+static void add_too_high(void)
+{
+    static const uint8_t ops[] = {KEEP, KEEP, KEEP, AT, AT, AT, NOT, FORWARD, BACKWARD};
+    unsigned height;
+
+    add_on_top(HERE, brought(a_slot(), SLOTS));
+    for (height = 1; height <= HIGHEST + 1; height++)
+        add_on_top(ops[below(sizeof ops)], brought(a_slot(), SLOTS));
+}
+
+/* Makes a formula wrong: an op past the last, a slot past the last, or a number where op 10 has none; or adds one that is too high. */
+static void spoil_formula(void)
+{
+    size_t number = below((unsigned)count_of(&bundle, FORMULA));
+    uint8_t *body = body_of(FORMULA, number);
+
+    if (!body || one_in(4)) {
+        add_too_high();
+        return;
+    }
+    switch (below(3)) {
+    case 0:
+        body[0] = (uint8_t)(OPS + below(one_in(2) ? 1 : 256 - OPS));
+        break;
+    case 1:
+        body[0] = (uint8_t)(number ? KEEP + below(3) : HERE);
+        body[1] = (uint8_t)(SLOTS + below(one_in(2) ? 1 : 256 - SLOTS)), body[2] = 0;
+        break;
+    default:
+        body[0] = HERE, body[1] = brought(body[1], SLOTS), body[2] = (uint8_t)(1 + below(number ? (unsigned)number : 255));
+    }
+}
+
+/* Mostly puts right what the changes broke: order, or everything; now and then one formula is made wrong. */
 static void repair(void)
 {
     if (one_in(5))
@@ -338,6 +482,8 @@ static void repair(void)
         repair_numbers();
         drop_misfits();
     }
+    if (one_in(30))
+        spoil_formula();
     repair_order();
 }
 
@@ -407,23 +553,31 @@ static void fill_set(uint8_t *call)
     set_put(call, has_set ? set_near(set_noted(), count_of(&bundle, PRINCIPAL)) : 0);
 }
 
-/* Fills in a call that suits the bundle: a known edge or a new one, or a question or ticket for a user. */
-static void fill_call(uint8_t *call)
+/* Fills in what a question or ticket is about: a method, an object, often one at the end of an edge, and mostly a user. */
+static void fill_question(uint8_t *call)
 {
     const struct line *edge = line_of(&bundle, EDGE, below((unsigned)count_of(&bundle, EDGE)));
     const struct line *user = line_of(&bundle, USER, below((unsigned)count_of(&bundle, USER)));
+
+    call[1] = named(count_of(&bundle, METHOD));
+    call[2] = edge && one_in(2) ? edge->octets[3 + below(2)] : an_object();
+    call[3] = user && !one_in(12) ? user->octets[2] : an_object();
+}
+
+/* Fills in a call that suits the bundle: a known edge or a new one, or a question or ticket. */
+static void fill_call(uint8_t *call)
+{
+    const struct line *edge = line_of(&bundle, EDGE, below((unsigned)count_of(&bundle, EDGE)));
     struct line any;
 
     call[0] = one_in(40) ? (uint8_t)random_any() : (uint8_t)below(ACCESS_CALL_TICKET + 1);
     fill_set(call);
-    if (call[0] < ACCESS_CALL_EAGER) {
-        fill_body(EDGE, any.octets + 2);
-        memcpy(call + 1, edge && one_in(2) ? edge->octets + 2 : any.octets + 2, 3);
+    if (call[0] >= ACCESS_CALL_EAGER) {
+        fill_question(call);
         return;
     }
-    call[1] = named(count_of(&bundle, METHOD));
-    call[2] = an_object();
-    call[3] = user && !one_in(12) ? user->octets[2] : an_object();
+    fill_body(EDGE, any.octets + 2);
+    memcpy(call + 1, edge && one_in(2) ? edge->octets + 2 : any.octets + 2, 3);
 }
 
 /* Puts the octets of a call before a place; without room nothing happens. */
@@ -434,6 +588,27 @@ static void insert_call(size_t place, const uint8_t *call)
     memmove(calls + place + CALL, calls + place, calls_length - place);
     memcpy(calls + place, call, CALL);
     calls_length += CALL;
+}
+
+/* Gives formulas that name a vertex to a principal, and proposes that one alone in a few tickets. */
+static void change_naming(void)
+{
+    uint8_t call[CALL] = {ACCESS_CALL_TICKET}, *principal;
+    unsigned number, tickets;
+
+    add_naming();
+    if (one_in(4) || count_of(&bundle, PRINCIPAL) == 0)
+        add_line(PRINCIPAL);
+    number = below((unsigned)count_of(&bundle, PRINCIPAL));
+    principal = body_of(PRINCIPAL, number);
+    if (!principal)
+        return;
+    principal[0] = (uint8_t)(count_of(&bundle, FORMULA) - 1);
+    set_put(call, (uint32_t)1 << number % 32);
+    for (tickets = 1 + below(4); tickets > 0; tickets--) {
+        fill_question(call);
+        insert_call(CALL * (size_t)below((unsigned)(calls_length / CALL + 1)), call);
+    }
 }
 
 /* Repeats a call behind another one, mostly in the other form or as a ticket. */
@@ -590,7 +765,9 @@ size_t LLVMFuzzerCustomMutator(uint8_t *data, size_t size, size_t max_size, unsi
         return LLVMFuzzerMutate(data, size, max_size);
     read_input(data, size);
     for (steps = 1 + below(4); steps > 0; steps--)
-        if (one_in(2))
+        if (one_in(20))
+            change_naming();
+        else if (one_in(2))
             change_calls();
         else
             change_lines();

@@ -2,15 +2,30 @@
 
 #include <stdio.h>
 
+#include "formulas.h"
 #include "sets.h"
 
 static size_t bundles[19], answers[23], kinds[8], granted, yes, tickets, dropped;
 static size_t parts, writes[20], again, of_edited, refused, altered[20];
+static size_t using[USES], evaluated[USES];
+
+/* What the formulas of the bundle at hand have in them. */
+static unsigned uses;
 
 /* Counts a bundle by its number. */
 void tally_bundle(uint64_t number)
 {
     bundles[number]++;
+}
+
+/* Counts an accepted bundle by what its principals' formulas have in them. */
+void tally_formulas(const struct bundle *bundle)
+{
+    unsigned i;
+
+    uses = uses_of(bundle);
+    for (i = 0; i < USES; i++)
+        using[i] += uses >> i & 1;
 }
 
 /* Counts a buffer that was too short. */
@@ -19,11 +34,20 @@ void tally_short(void)
     bundles[18]++;
 }
 
-/* Counts an answer by its number and by the kind of its call. */
+/* Whether a call that may evaluate formulas got as far as that. */
+static bool evaluates(unsigned kind, unsigned number)
+{
+    return kind >= ACCESS_CALL_EAGER && kind <= ACCESS_CALL_TICKET && (number < 14 || number > 16);
+}
+
+/* Counts an answer by its number, by the kind of its call, and by what is in the formulas. */
 void tally_answer(unsigned kind, const uint8_t *answer)
 {
     uint32_t set = set_of_answer(answer);
+    unsigned i;
 
+    for (i = 0; i < USES && evaluates(kind, answer[0]); i++)
+        evaluated[i] += uses >> i & 1;
     answers[answer[0]]++;
     kinds[kind > ACCESS_CALL_TICKET ? 7 : kind]++;
     granted += (kind == ACCESS_CALL_EAGER || kind == ACCESS_CALL_LAZY) && set != 0;
@@ -76,6 +100,18 @@ static void tally_lent_print(void)
     fprintf(stderr, "with octets altered, by number: 0:%zu 19:%zu\n", altered[0], altered[19]);
 }
 
+/* Prints the counts of what is in formulas. */
+static void tally_formulas_print(void)
+{
+    static const char *names[] = {"op 9", "op 10", "op 11", "a kept slot asked for", "one that hides another", "an unset one asked for"};
+    unsigned i;
+
+    fprintf(stderr, "accepted bundles, and questions, liberal, strict and tickets past 14 to 16, with, in the principals' formulas,");
+    for (i = 0; i < USES; i++)
+        fprintf(stderr, "%s %s:%zu, %zu", i ? ";" : "", names[i], using[i], evaluated[i]);
+    fprintf(stderr, "\n");
+}
+
 /* Prints the counts. */
 void tally_print(void)
 {
@@ -95,5 +131,6 @@ void tally_print(void)
         fprintf(stderr, " %s:%zu", names[i], kinds[i]);
     fprintf(stderr, "; sets granted other than the empty one: %zu; yes: %zu; tickets accepted: %zu; ", granted, yes, tickets);
     fprintf(stderr, "calls left out as too slow: %zu\n", dropped);
+    tally_formulas_print();
     tally_lent_print();
 }

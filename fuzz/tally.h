@@ -2,11 +2,10 @@
 #ifndef TALLY_H
 #define TALLY_H
 
-#include <stdbool.h>
-#include <stddef.h>
-#include <stdint.h>
+#include "bundle.h"
 
 void tally_bundle(uint64_t number);
+void tally_formulas(const struct bundle *bundle);
 void tally_short(void);
 void tally_answer(unsigned kind, const uint8_t *answer);
 void tally_dropped(size_t calls);

@@ -4,6 +4,8 @@
 
 use std::time::{Duration, Instant};
 
+mod kept;
+
 mod engine {
     #[repr(C, align(8))]
     struct Record([u8; 5104]);
@@ -674,8 +676,21 @@ fn least_sets(climb: Duration) {
 }
 
 fn main() {
-    let seconds =
-        std::env::args().nth(1).map_or(10, |s| s.parse().unwrap_or_else(|_| stop("usage: cost [seconds of climbing]")));
-    formulas();
-    least_sets(Duration::from_secs(seconds));
+    const USAGE: &str = "usage: cost [seconds of climbing [a word of a section's title]]";
+    let sections: [(&str, fn(Duration)); 3] = [
+        ("evaluation of nested steps", |_| formulas()),
+        ("evaluation with kept vertices", kept::formulas),
+        ("the least set", least_sets),
+    ];
+    let given: Vec<String> = std::env::args().skip(1).collect();
+    let seconds = given.first().map_or(10, |s| s.parse().unwrap_or_else(|_| stop(USAGE)));
+    let word = given.get(1).map_or("", String::as_str);
+    if !sections.iter().any(|(title, _)| title.contains(word)) {
+        stop(USAGE);
+    }
+    for (title, section) in sections {
+        if title.contains(word) {
+            section(Duration::from_secs(seconds));
+        }
+    }
 }

@@ -25,6 +25,8 @@ mod longest;
 mod measure;
 #[path = "ratios/mixed.rs"]
 mod mixed;
+#[path = "ratios/naming.rs"]
+mod naming;
 #[path = "ratios/questions.rs"]
 mod questions;
 #[path = "ratios/run.rs"]
@@ -81,6 +83,7 @@ fn main() {
     let covers = is_wanted(cover::TITLE).then(|| cover::workloads(&mut longest));
     section(cover::TITLE, || covers.unwrap_or_default(), &mut longest);
     section(tickets::TITLE, tickets::workloads, &mut longest);
+    section(naming::TITLE, naming::workloads, &mut longest);
     section("edits", edits::workloads, &mut longest);
     section("10,000 mixed calls", mixed::workloads, &mut longest);
     let lent = section(lent::TITLE, lent::workloads, &mut longest);

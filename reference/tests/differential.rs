@@ -8,7 +8,7 @@
 //!
 //! Each case depends on the seed and its number only. A difference is printed with its seed, its
 //! bundle, its calls and both results, and fails the test. So does a refusal that occurred too
-//! seldom, or a limit that no bundle reached.
+//! seldom, or an answer that depends on a slot, or a limit that no bundle reached.
 
 #[cfg(not(engine))]
 compile_error!("../target/staticlib/libcapi.a is missing: `rt staticlib capi` makes it");
@@ -23,6 +23,8 @@ mod compare;
 mod damage;
 #[path = "differential/engine.rs"]
 mod engine;
+#[path = "differential/faults.rs"]
+mod faults;
 #[path = "differential/formulas.rs"]
 mod formulas;
 #[path = "differential/frame.rs"]
@@ -41,8 +43,12 @@ mod policy;
 mod random;
 #[path = "differential/report.rs"]
 mod report;
+#[path = "differential/run.rs"]
+mod run;
 #[path = "differential/sealed.rs"]
 mod sealed;
+#[path = "differential/shapes.rs"]
+mod shapes;
 #[path = "differential/sizes.rs"]
 mod sizes;
 mod support;
@@ -50,69 +56,22 @@ mod support;
 mod tally;
 #[path = "differential/tally_lent.rs"]
 mod tally_lent;
+#[path = "differential/tally_naming.rs"]
+mod tally_naming;
 #[path = "differential/tally_tickets.rs"]
 mod tally_tickets;
 #[path = "differential/tickets.rs"]
 mod tickets;
+#[path = "differential/watch.rs"]
+mod watch;
 
-use random::{fresh_seed, Random};
 use std::process::ExitCode;
-use tally::Tally;
 
-/// The seed that every run has.
-const FIXED_SEED: u64 = 0x0CA5_EACC_E551_0001;
-
-/// Runs all seeds, prints the counts, and fails on a difference or a gap.
+/// Runs all seeds.
 fn main() -> ExitCode {
-    let seeds = seeds();
-    for seed in &seeds {
-        println!("seed {seed:#018X}: {} cases", cases::CASES);
+    if !run::agrees() {
+        return ExitCode::FAILURE;
     }
-    let mut tally = Tally::default();
-    for seed in seeds {
-        if !run(seed, &mut tally) {
-            return ExitCode::FAILURE;
-        }
-    }
-    tally.print();
-    verdict(&tally.gaps())
-}
-
-/// The seed that the environment names, or else the fixed one and a fresh one.
-fn seeds() -> Vec<u64> {
-    match std::env::var("DIFFERENTIAL_SEED") {
-        Ok(text) => vec![parsed(&text)],
-        Err(_) => vec![FIXED_SEED, fresh_seed()],
-    }
-}
-
-/// A seed as it was printed, in hexadecimal digits with or without 0x.
-fn parsed(text: &str) -> u64 {
-    let digits = text.trim().trim_start_matches("0x");
-    u64::from_str_radix(digits, 16).expect("DIFFERENTIAL_SEED is a hexadecimal number")
-}
-
-/// Compares all cases of a seed; false after the first difference, which is printed.
-fn run(seed: u64, tally: &mut Tally) -> bool {
-    for number in 0..cases::CASES {
-        let mut random = Random::of_case(seed, number);
-        let case = cases::case(&mut random, number);
-        if let Err(difference) = compare::compare(&case, &mut random, tally) {
-            report::print(seed, number, &case, &difference);
-            return false;
-        }
-    }
-    true
-}
-
-/// Says whether the run was as wide as it should be.
-fn verdict(gaps: &[String]) -> ExitCode {
-    for gap in gaps {
-        println!("\nTOO NARROW: {gap}");
-    }
-    if gaps.is_empty() {
-        println!("\nboth implementations agree on every case");
-        return ExitCode::SUCCESS;
-    }
-    ExitCode::FAILURE
+    println!("\nboth implementations agree on every case");
+    ExitCode::SUCCESS
 }

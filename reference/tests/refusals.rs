@@ -120,7 +120,7 @@ fn number_6_heads_users_and_edges() {
 #[test]
 fn number_6_formulas() {
     let bad: [[u8; 4]; 21] = [
-        [4, 9, 0, 0],
+        [4, 12, 0, 0],
         [4, 255, 0, 0],
         [4, 0, 1, 0],
         [4, 0, 0, 1],
@@ -148,19 +148,85 @@ fn number_6_formulas() {
 }
 
 #[test]
+fn number_6_ops_above_11() {
+    for op in 12..=255 {
+        for formula in [[4, op, 0, 0], [4, op, 3, 0], [4, op, 0, 1]] {
+            assert_eq!(refused(&small(&[&[4, 0, 0, 0], &formula])), (6, 3));
+        }
+    }
+}
+
+#[test]
+fn number_6_slots() {
+    for op in 9..=11 {
+        for a in 0..=255 {
+            let expected = if a <= 3 { (0, 0) } else { (6, 3) };
+            assert_eq!(refused(&small(&[&[4, 0, 0, 0], &[4, op, a, 0]])), expected);
+        }
+    }
+}
+
+#[test]
+fn number_6_op_10_has_no_b() {
+    for b in 0..=255 {
+        let expected = if b == 0 { (0, 0) } else { (6, 4) };
+        let lines: [&[u8]; 3] = [&[4, 0, 0, 0], &[4, 0, 0, 0], &[4, 10, 3, b]];
+        assert_eq!(refused(&small(&lines)), expected);
+    }
+    assert_eq!(refused(&small(&[&[4, 10, 0, 0]])), (0, 0));
+}
+
+#[test]
+fn number_6_ops_9_and_11_name_a_lower_formula() {
+    for op in [9, 11] {
+        assert_eq!(refused(&small(&[&[4, op, 0, 0]])), (6, 2));
+        for b in 0..=255 {
+            let expected = if b <= 1 { (0, 0) } else { (6, 4) };
+            let lines: [&[u8]; 3] = [&[4, 0, 0, 0], &[4, 10, 0, 0], &[4, op, 3, b]];
+            assert_eq!(refused(&small(&lines)), expected);
+        }
+    }
+}
+
+#[test]
 fn number_6_height() {
-    for op in 4..=8 {
+    for op in [4, 5, 6, 7, 8, 9, 11] {
         let step = |n: u8| match op {
             4 => vec![4, 4, n, 0],
             5 | 6 => vec![4, op, 0, n],
-            _ => vec![4, op, 15, n],
+            7 | 8 => vec![4, op, 15, n],
+            _ => vec![4, op, n % 4, n],
         };
-        let mut lines = vec![vec![1, 1, 1], vec![4, 0, 0, 0]];
+        let leaf = if op < 9 { 0 } else { 10 };
+        let mut lines = vec![vec![1, 1, 1], vec![4, leaf, 0, 0]];
         lines.extend((0..8).map(step));
         assert_eq!(refused(&bundle(&lines)), (0, 0));
         lines.push(step(8));
         assert_eq!(refused(&bundle(&lines)), (6, 11));
     }
+}
+
+#[test]
+fn number_6_height_of_a_mixed_tower() {
+    let mut lines = vec![vec![1, 1, 1], vec![4, 10, 3, 0]];
+    let above = [
+        [9, 0],
+        [7, 0],
+        [11, 0],
+        [8, 1],
+        [9, 0],
+        [9, 1],
+        [11, 3],
+        [7, 15],
+    ];
+    lines.extend((0..).zip(above).map(|(n, [op, a])| vec![4, op, a, n]));
+    assert_eq!(refused(&bundle(&lines)), (0, 0));
+    for line in [[4, 9, 0, 8], [4, 11, 0, 8], [4, 4, 8, 0], [4, 5, 0, 8]] {
+        let higher = [lines.clone(), vec![line.to_vec()]].concat();
+        assert_eq!(refused(&bundle(&higher)), (6, 11));
+    }
+    lines.push(vec![4, 10, 0, 0]);
+    assert_eq!(refused(&bundle(&lines)), (0, 0));
 }
 
 #[test]

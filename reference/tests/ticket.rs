@@ -105,7 +105,7 @@ fn a_ticket_is_checked_on_the_present_graph() {
 
 /// A small random policy, as lines.
 fn small(random: &mut Random) -> Lines {
-    let mut sizes = Sizes::small(random);
+    let mut sizes = Sizes::small(random).naming(random);
     sizes.principals = sizes.principals.min(6);
     policy(random, &sizes)
 }

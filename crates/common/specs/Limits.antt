@@ -47,6 +47,13 @@ highestLabel = 15
 abbrev pub highestRole : ℕ
 highestRole = 15
 
+-- request 2026-03: "In all three, a is 0 to 3": so many slots
+abbrev pub highestSlot : ℕ
+highestSlot = 3
+
+abbrev pub slotCount : ℕ
+slotCount = 4
+
 -- "privileges (8 octets; privilege k has weight 2^k)"
 abbrev pub privilegeCount : ℕ
 privilegeCount = 64

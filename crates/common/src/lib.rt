@@ -78,10 +78,14 @@ pub const MOST_PAIRS: usize = 380;
 
 pub const MOST_EXCLUSIONS: usize = 190;
 
-// Labels and roles are 0 to 15, privileges 0 to 63.
+// Labels and roles are 0 to 15, slots 0 to 3, privileges 0 to 63.
 pub const HIGHEST_LABEL: u8 = 15;
 
 pub const HIGHEST_ROLE: u8 = 15;
+
+pub const HIGHEST_SLOT: u8 = 3;
+
+pub const SLOT_COUNT: usize = 4;
 
 pub const PRIVILEGE_COUNT: usize = 64;
 

@@ -1,3 +1,4 @@
-pub mod VertexSets
+pub mod SlotNumbers
+pub mod SlotReads
 pub mod Recursion
 pub mod RequestorRoles

@@ -5,15 +5,20 @@ use mathlib.Core.Bool.{Bool, true, false, not, _&&_, _||_, and-assoc, and-or-dis
 use mathlib.Core.List.{List, [], _∷_}
 use native.Mathlib.Omega.{arith}
 use lib.Dec.{eqb}
-use borrow.Author.Tests.{eq-eqb, ne-eqb, eqb-true}
+use borrow.Author.Tests.{eq-eqb, eqb-true}
 use Rattle.common.specs.Lists.{at}
 use Rattle.common.specs.ListLaws.{any-more}
-use Rattle.common.specs.BoolLaws.{and-false, and-cases, and-both, same-test}
-use Rattle.rows.specs.Op.{unknown, opOf}
-use Rattle.formula.specs.Formula.{Context, Formulas, leads, meaning, trueBelow}
-use Rattle.formula.specs.FormulaLaws.{some-edge, edge-some}
-use Rattle.formula.specs.Evaluation.{isIn, Among, edgesIn, formulaAt}
+use Rattle.common.specs.BoolLaws.{and-true, and-false, and-cases, and-both, same-test}
+use Rattle.rows.specs.Op.{opOf}
+use Rattle.rows.specs.OpLaws.{op-above}
+use Rattle.vertices.specs.Steps.{leads, isIn, Among, edgesIn}
+use Rattle.vertices.specs.StepLaws.{some-edge, edge-some}
+use Rattle.formula.specs.Formula.{Context, Formulas, Slot, trueOf, slot, keep, meaning, trueBelow}
+use Rattle.formula.specs.Uses.{readsSlot}
+use Rattle.formula.specs.SlotLaws.{kept-unread}
+use Rattle.formula.specs.Evaluation.{formulaAt}
 use Rattle.formula.specs.EvaluationLaws.{below-out, below-in}
+use Rattle.vertices.proofs.VertexSets.{at-asked}
 
 -- the edges turned round
 turned : (n : ℕ) (labels from to : List ℕ) (a : ℕ) (p : ℕ → Bool) (v : ℕ)
@@ -41,7 +46,7 @@ module _ (fs : Formulas) (c : Context) (f : ℕ) (asked : List Bool) {r : List B
       }
 
   -- formula f by the number k of its op
-  pub by-op : (k : ℕ) → at (fs .ops) f ≡ k → Among asked (meaning c (opOf k) (at (fs .lefts) f) (at (fs .rights) f) (trueBelow fs c f)) r
+  pub by-op : (k : ℕ) → at (fs .ops) f ≡ k → Among asked (meaning c (opOf k) (at (fs .lefts) f) (at (fs .rights) f) (λ d. trueBelow fs d f)) r
       → Among asked (formulaAt fs c f) r
   unfolding formulaAt
   by-op k e h =
@@ -49,7 +54,7 @@ module _ (fs : Formulas) (c : Context) (f : ℕ) (asked : List Bool) {r : List B
         members =
             λ v.
             h .members v
-            ∙ ap (λ (o : ℕ). isIn asked v && meaning c (opOf o) (at (fs .lefts) f) (at (fs .rights) f) (trueBelow fs c f) v) (sym e);
+            ∙ ap (λ (o : ℕ). isIn asked v && meaning c (opOf o) (at (fs .lefts) f) (at (fs .rights) f) (λ d. trueBelow fs d f) v) (sym e);
       }
 
   -- t and u are the answers for the parts a and b
@@ -116,24 +121,31 @@ module _ (fs : Formulas) (c : Context) (f : ℕ) (asked : List Bool) {r : List B
       }
       )
 
-  -- no op has a number above 8
-  pub no-op : 8 < at (fs .ops) f → ((v : ℕ) → isIn r v ≡ false) → Among asked (formulaAt fs c f) r
+  -- the right part at each asked vertex by itself, with that vertex kept in the slot
+  pub each-kept : at (fs .ops) f ≡ 9
+      → ((v : ℕ) → isIn r v ≡ (isIn asked v && trueBelow fs (keep c (at (fs .lefts) f) v) f (at (fs .rights) f) v))
+      → Among asked (formulaAt fs c f) r
+  unfolding meaning
+  each-kept op h = by-op 9 op (record { members = h })
+
+  -- the vertex in the slot
+  pub vertex-in-slot : at (fs .ops) f ≡ 10 → Among asked (λ v. trueOf (slot c (at (fs .lefts) f)) (λ w. eqb v w)) r
+      → Among asked (formulaAt fs c f) r
+  unfolding meaning
+  vertex-in-slot op h = by-op 10 op h
+
+  -- all asked vertices, or none, by the right part at the vertex in the slot
+  pub part-at-slot : at (fs .ops) f ≡ 11 → {x : Slot} → x ≡ slot c (at (fs .lefts) f)
+      → ((v : ℕ) → isIn r v ≡ (isIn asked v && trueOf x (trueBelow fs c f (at (fs .rights) f))))
+      → Among asked (formulaAt fs c f) r
+  unfolding meaning
+  part-at-slot op e h =
+      by-op 11 op (record { members = λ v. h v ∙ (λ j. isIn asked v && trueOf (e j) (trueBelow fs c f (at (fs .rights) f))) })
+
+  -- no op has a number above 11
+  pub no-op : 11 < at (fs .ops) f → ((v : ℕ) → isIn r v ≡ false) → Among asked (formulaAt fs c f) r
   unfolding meaning formulaAt
-  no-op l h = record { members = λ v. h v ∙ sym (rw (unknown-op (at (fs .ops) f) l) (and-false (isIn asked v))) }
-    where
-      unknown-op : (op : ℕ) → 8 < op → opOf op ≡ unknown
-      unknown-op op l =
-          rw (
-            ne-eqb op 0 (λ e. omega arith),
-            ne-eqb op 1 (λ e. omega arith),
-            ne-eqb op 2 (λ e. omega arith),
-            ne-eqb op 3 (λ e. omega arith),
-            ne-eqb op 4 (λ e. omega arith),
-            ne-eqb op 5 (λ e. omega arith),
-            ne-eqb op 6 (λ e. omega arith),
-            ne-eqb op 7 (λ e. omega arith),
-            ne-eqb op 8 (λ e. omega arith),
-          )
+  no-op l h = record { members = λ v. h v ∙ sym (rw (op-above (at (fs .ops) f) l) (and-false (isIn asked v))) }
 
 -- an edge scan: what is found where the edges end that start at asked vertices, Q there, says as much of these as Q itself
 pub scanned : (es : List (List ℕ)) (a b : ℕ) (Q : ℕ → ℕ → Bool) {asked reached found r : List Bool} {g : ℕ} → g ≡ b
@@ -164,3 +176,31 @@ scanned es a b Q {asked} {reached} {found} e reaches finds h = record { members 
           let q = is-found (at e 2) ∙ and-both (leads es 2 1 a (isIn asked) (at e 2)) (Q b (at e 2)) reached q in
           edge-some _ es e i (and-both (eqb (at e 0) a) _ l (and-both (eqb (at e 1) v) (isIn found (at e 2)) m q))),
     )
+
+-- what is found where edges end is at the end of an edge
+pub found-reached : (es : List (List ℕ)) (a : ℕ) (asked : List Bool) {reached found : List Bool} {Q : ℕ → Bool}
+    → ((w : ℕ) → isIn reached w ≡ leads es 2 1 a (isIn asked) w) → Among reached Q found
+    → (v : ℕ) → isIn found v ≡ true → leads es 2 1 a (isIn asked) v ≡ true
+found-reached es a asked {reached} {Q = Q} reaches finds v t =
+    sym (reaches v) ∙ and-cases (isIn reached v) (Q v) (sym (finds .members v) ∙ t) .0
+
+-- a part at the vertex i by itself, with i kept in slot a
+pub kept-one : (fs : Formulas) (c : Context) (f a b i : ℕ) {d e : Context} {g : ℕ} (asked each : List Bool) {one t : List Bool} → each ≡ asked
+    → d ≡ c → e ≡ keep d a i → g ≡ b → Among asked (λ v. eqb v i) one → Among one (trueBelow fs e f g) t
+    → isIn t i ≡ (isIn each i && trueBelow fs (keep c a i) f b i)
+kept-one fs c f a b i asked each same alike keeps p picks h =
+    h .members i
+    ∙ (λ j. picks .members i j && trueBelow fs ((keeps ∙ ap (λ (x : Context). keep x a i) alike) j) f (p j) i)
+    ∙ (λ j. (isIn asked i && eq-eqb i i refl j) && trueBelow fs (keep c a i) f b i)
+    ∙ (λ j. and-true (isIn (sym same j) i) j && trueBelow fs (keep c a i) f b i)
+
+-- a part at the vertex x alone
+pub at-one : (fs : Formulas) (c : Context) (f b x : ℕ) {d : Context} {g i : ℕ} {one t : List Bool} → d ≡ c → g ≡ b → i ≡ x → isIn one i ≡ true
+    → Among one (trueBelow fs d f g) t → isIn t i ≡ trueBelow fs c f b x
+at-one fs c f b x alike p e asks h = at-asked h e asks ∙ (λ j. trueBelow fs (alike j) f (p j) x)
+
+-- a part that does not read slot a, at all asked vertices together
+pub kept-none : (fs : Formulas) (c : Context) (f a b : ℕ) {g : ℕ} (asked : List Bool) {r : List Bool} → readsSlot fs f b a ≡ false → g ≡ b
+    → Among asked (trueBelow fs c f g) r → (v : ℕ) → isIn r v ≡ (isIn asked v && trueBelow fs (keep c a v) f b v)
+kept-none fs c f a b asked e p h v =
+    h .members v ∙ (λ j. isIn asked v && trueBelow fs c f (p j) v) ∙ (λ j. isIn asked v && sym (kept-unread fs f c a v b v e) j)

@@ -10,23 +10,23 @@ use Rattle.common.specs.Limits.{mostFormulas}
 use Rattle.common.specs.Sets.{member}
 use Rattle.policy.specs.declared.Record.{Record}
 use Rattle.policy.specs.Table.{edge, rows}
-use Rattle.formula.specs.Formula.{Context, Formulas, holdsRole, trueBelow, formulasOf, holdsOn, holds}
+use Rattle.formula.specs.Formula.{Context, Formulas, allUnset, holdsRole, trueBelow, formulasOf, holdsOn, holds}
 use Rattle.formula.specs.Evaluation.{contextOf, trueAtObject, holdsRoleIn}
 
-module _ (fs : Formulas) (c : Context) where
+module _ (fs : Formulas) where
   -- a formula at or above n is false; below n it is the same for any larger n
-  pub below-out : (n f v : ℕ) → n ≤ f → trueBelow fs c n f v ≡ false
+  pub below-out : (c : Context) (n f v : ℕ) → n ≤ f → trueBelow fs c n f v ≡ false
   unfolding trueBelow
-  below-out zero f v h = refl
-  below-out (suc n) f v h = rw (ne-eqb f n (λ e. omega arith)) (below-out n f v (omega arith))
+  below-out c zero f v h = refl
+  below-out c (suc n) f v h = rw (ne-eqb f n (λ e. omega arith)) (below-out c n f v (omega arith))
 
-  pub below-in : (n m f v : ℕ) → f < n → n ≤ m → trueBelow fs c m f v ≡ trueBelow fs c n f v
+  pub below-in : (c : Context) (n m f v : ℕ) → f < n → n ≤ m → trueBelow fs c m f v ≡ trueBelow fs c n f v
   unfolding trueBelow
-  below-in n zero f v l h = absurd (omega arith)
-  below-in n (suc m) f v l h =
+  below-in c n zero f v l h = absurd (omega arith)
+  below-in c n (suc m) f v l h =
       ⊎-elim
       (λ e. ap (λ (k : ℕ). trueBelow fs c k f v) (sym e))
-      (λ k. rw (ne-eqb f m (λ e. omega arith)) (below-in n m f v l (le-of-suc-le-suc k)))
+      (λ k. rw (ne-eqb f m (λ e. omega arith)) (below-in c n m f v l (le-of-suc-le-suc k)))
       (eq-or-lt-of-le h)
 
 -- the roles found in a record's user columns are those that the requestor holds
@@ -40,5 +40,5 @@ unfolding holds holdsOn
 true-at-holds r f o s roles held l few =
     below-in (formulasOf r) (contextOf roles o s (rows edge r)) (r .«formula_count») mostFormulas f o l few
     ∙ (λ j. trueBelow (formulasOf r)
-    (record { roles = λ a. held a j; edges = rows edge r; object = o; requestor = s })
+    (record { roles = λ a. held a j; edges = rows edge r; object = o; requestor = s; slots = allUnset })
     (r .«formula_count») f o)

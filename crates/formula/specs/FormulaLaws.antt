@@ -1,80 +1,87 @@
--- Two graphs with the same edges, in whatever order, give a formula the same value.
+-- Two graphs with the same edges, in whatever order, give a formula the same value, whatever its slots hold.
 use Prim.Native.Nat.{ℕ, zero, suc}
-use mathlib.Core.Path.{_≡_, refl, sym, _∙_, ap}
-use mathlib.Core.Logic.{⊎-elim}
-use mathlib.Core.Bool.{Bool, true, false≢true, not, cond, _&&_, _||_}
-use mathlib.Core.List.{List, [], _∷_}
+use mathlib.Core.Path.{_≡_, refl, _∙_, ap}
+use mathlib.Core.Bool.{Bool, true, not, cond, _&&_, _||_}
+use mathlib.Core.List.{List}
 use lib.Dec.{eqb}
-use borrow.Author.Tests.{eqb-true, eq-eqb}
-use Rattle.common.specs.ListLaws.{same-self}
 use Rattle.common.specs.Lists.{at, any, same}
-use Rattle.common.specs.BoolLaws.{and-cases, and-both, or-cases, or-left, or-right, same-test}
-use Rattle.rows.specs.Op.{Op, always, requestor, object, role, negation, conjunction, disjunction, forward, backward, unknown, opOf}
+use Rattle.rows.specs.Op.{
+  Op,
+  always,
+  requestor,
+  object,
+  role,
+  negation,
+  conjunction,
+  disjunction,
+  forward,
+  backward,
+  keeping,
+  inSlot,
+  atSlot,
+  unknown,
+  opOf,
+}
 use Rattle.policy.specs.declared.Record.{Record}
 use Rattle.policy.specs.Edits.{edgeIn}
-use Rattle.formula.specs.Formula.{Context, Formulas, leads, meaning, trueBelow, formulasOf, contextOn, holdsOn}
+use Rattle.vertices.specs.Steps.{leads}
+use Rattle.vertices.specs.StepLaws.{same-any}
+use Rattle.formula.specs.Formula.{
+  Context,
+  Formulas,
+  Slot,
+  unset,
+  holding,
+  trueOf,
+  slot,
+  keep,
+  meaning,
+  trueBelow,
+  formulasOf,
+  contextOn,
+  holdsOn,
+}
 
--- rows that are the same by test are equal
-same-is : (l m : List ℕ) → same l m ≡ true → l ≡ m
-same-is [] [] e = refl
-same-is [] (y ∷ m) e = absurd (false≢true e)
-same-is (x ∷ l) [] e = absurd (false≢true e)
-same-is (x ∷ l) (y ∷ m) e = let p = and-cases (eqb x y) _ e in λ j. eqb-true x y (p .0) j ∷ same-is l m (p .1) j
+-- the same but for the edges
+abbrev pub onEdges : Context → List (List ℕ) → Context
+onEdges c es = record { roles = c .roles; edges = es; object = c .object; requestor = c .requestor; slots = c .slots }
 
-module _ (p : List ℕ → Bool) where
-  -- some edge passes: it is one of them
-  pub some-edge : (es : List (List ℕ)) → any p es ≡ true → (e : List ℕ) × ((edgeIn es e ≡ true) × (p e ≡ true))
-  some-edge [] h = absurd (false≢true h)
-  some-edge (e ∷ es) h =
-      ⊎-elim
-      (λ t. (e, (or-left (same e e) (edgeIn es e) (same-self e), t)))
-      (λ t. let x = some-edge es t in (x .0, (or-right (same (x .0) e) (edgeIn es (x .0)) (x .1 .0), x .1 .1)))
-      (or-cases (p e) (any p es) h)
+-- what is true of a slot's vertex
+pub same-of-slot : (s : Slot) (p q : ℕ → Bool) → ((v : ℕ) → p v ≡ q v) → trueOf s p ≡ trueOf s q
+same-of-slot unset p q h = refl
+same-of-slot (holding v) p q h = h v
 
-  pub edge-some : (es : List (List ℕ)) (e : List ℕ) → edgeIn es e ≡ true → p e ≡ true → any p es ≡ true
-  edge-some [] e h t = absurd (false≢true h)
-  edge-some (f ∷ es) e h t =
-      ⊎-elim
-      (λ s. or-left (p f) (any p es) (ap p (sym (same-is e f s)) ∙ t))
-      (λ s. or-right (p f) (any p es) (edge-some es e s t))
-      (or-cases (same e f) (edgeIn es e) h)
-
-  same-any : (es fs : List (List ℕ)) → ((e : List ℕ) → edgeIn es e ≡ edgeIn fs e) → any p es ≡ any p fs
-  same-any es fs h =
-      same-test (any p es) (any p fs) (
-        (λ t. let x = some-edge es t in edge-some fs (x .0) (sym (h (x .0)) ∙ x .1 .0) (x .1 .1)),
-        (λ t. let x = some-edge fs t in edge-some es (x .0) (h (x .0) ∙ x .1 .0) (x .1 .1)),
-      )
-
-module _ (c : Context) (es : List (List ℕ)) (same-set : (e : List ℕ) → edgeIn (c .edges) e ≡ edgeIn es e) where
-  -- the context with the edges es
-  abbrev on : Context
-  on = record { roles = c .roles; edges = es; object = c .object; requestor = c .requestor }
-
-  same-meaning : (op : Op) (a b : ℕ) (p q : ℕ → ℕ → Bool) → ((g v : ℕ) → p g v ≡ q g v) → (here : ℕ)
-      → meaning c op a b p here ≡ meaning on op a b q here
+module _ (es fs : List (List ℕ)) (same-set : (e : List ℕ) → edgeIn es e ≡ edgeIn fs e) where
+  same-meaning : (p q : Context → ℕ → ℕ → Bool) → ((c : Context) (g v : ℕ) → p (onEdges c es) g v ≡ q (onEdges c fs) g v)
+      → (c : Context) (op : Op) (a b here : ℕ) → meaning (onEdges c es) op a b p here ≡ meaning (onEdges c fs) op a b q here
   unfolding meaning
-  same-meaning always a b p q h here = refl
-  same-meaning requestor a b p q h here = refl
-  same-meaning object a b p q h here = refl
-  same-meaning role a b p q h here = refl
-  same-meaning negation a b p q h here = ap not (h a here)
-  same-meaning conjunction a b p q h here = λ j. h a here j && h b here j
-  same-meaning disjunction a b p q h here = λ j. h a here j || h b here j
-  same-meaning forward a b p q h here = same-any _ (c .edges) es same-set ∙ (λ j. leads es 1 2 a (λ v. h b v j) here)
-  same-meaning backward a b p q h here = same-any _ (c .edges) es same-set ∙ (λ j. leads es 2 1 a (λ v. h b v j) here)
-  same-meaning unknown a b p q h here = refl
+  same-meaning p q h c always a b here = refl
+  same-meaning p q h c requestor a b here = refl
+  same-meaning p q h c object a b here = refl
+  same-meaning p q h c role a b here = refl
+  same-meaning p q h c negation a b here = ap not (h c a here)
+  same-meaning p q h c conjunction a b here = λ j. h c a here j && h c b here j
+  same-meaning p q h c disjunction a b here = λ j. h c a here j || h c b here j
+  same-meaning p q h c forward a b here = same-any _ es fs same-set ∙ (λ j. leads fs 1 2 a (λ v. h c b v j) here)
+  same-meaning p q h c backward a b here = same-any _ es fs same-set ∙ (λ j. leads fs 2 1 a (λ v. h c b v j) here)
+  same-meaning p q h c keeping a b here = h (keep c a here) b here
+  same-meaning p q h c inSlot a b here = refl
+  same-meaning p q h c atSlot a b here = same-of-slot (slot c a) (p (onEdges c es) b) (q (onEdges c fs) b) (h c b)
+  same-meaning p q h c unknown a b here = refl
 
-  same-below : (fs : Formulas) (n f here : ℕ) → trueBelow fs c n f here ≡ trueBelow fs on n f here
+  -- of any formulas, in any context: the slots may hold what they will
+  pub same-below : (ps : Formulas) (n : ℕ) (c : Context) (f here : ℕ)
+      → trueBelow ps (onEdges c es) n f here ≡ trueBelow ps (onEdges c fs) n f here
   unfolding trueBelow
-  same-below fs zero f here = refl
-  same-below fs (suc n) f here =
+  same-below ps zero c f here = refl
+  same-below ps (suc n) c f here =
       λ j. cond (eqb f n)
-      (same-meaning (opOf (at (fs .ops) f)) (at (fs .lefts) f) (at (fs .rights) f) _ _ (same-below fs n) here j)
-      (same-below fs n f here j)
+      (same-meaning (λ d. trueBelow ps d n) (λ d. trueBelow ps d n) (same-below ps n) c (opOf (at (ps .ops) f)) (at (ps .lefts) f)
+      (at (ps .rights) f) here j)
+      (same-below ps n c f here j)
 
 -- THE LAW
 pub same-edges : (r : Record) (es fs : List (List ℕ)) (f here o s : ℕ) → ((e : List ℕ) → edgeIn es e ≡ edgeIn fs e)
     → holdsOn r es f here o s ≡ holdsOn r fs f here o s
 unfolding holdsOn
-same-edges r es fs f here o s h = same-below (contextOn r es o s) fs h (formulasOf r) (r .«formula_count») f here
+same-edges r es fs f here o s h = same-below es fs h (formulasOf r) (r .«formula_count») (contextOn r es o s) f here

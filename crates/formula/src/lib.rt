@@ -1,30 +1,39 @@
 // Formulas, evaluated on sets of vertices: a table of 256 bools says at which vertices a formula is true.
-// The columns of a record are lent, so that none is copied. An edge scan is two passes over the edges.
+// The columns of a record are lent, so that none is copied.
 
 ghost use mathlib.Core.Path.{_≡_};
-ghost use mathlib.Core.Bool.{Bool, false, not, _&&_, _||_};
+ghost use mathlib.Core.Bool.{Bool, true, false, not, _&&_};
 ghost use mathlib.Core.List.{List};
 ghost use Prim.Native.Nat.{ℕ, _≤_, _<_};
-ghost use lib.ListN.{length};
 ghost use lib.Dec.{eqb};
 ghost use Rattle.common.specs.Limits.{mostUsers, mostEdges, mostFormulas};
 ghost use Rattle.common.specs.Lists.{at};
 ghost use Rattle.common.specs.Sets.{member};
 ghost use Rattle.rows.specs.Op.{opOf};
-ghost use Rattle.formula.specs.Formula.{leads, meaning, trueBelow};
-ghost use Rattle.formula.specs.Evaluation.{isIn, Among, formulasIn, edgesIn, contextOf, contextIn, formulaAt, holdsRoleIn};
+ghost use Rattle.vertices.specs.Steps.{leads, isIn, Among, edgesIn};
+ghost use Rattle.formula.specs.Formula.{Context, trueOf, keep, slot, meaning, trueBelow};
+ghost use Rattle.formula.specs.Uses.{readsOf, readsSlot};
+ghost use Rattle.formula.specs.Evaluation.{formulasIn, slotOf, slotIn, contextOf, contextIn, formulaAt, holdsRoleIn};
 use common::HIGHEST_ROLE;
+use common::HIGHEST_SLOT;
 use common::MOST_EDGES;
 use common::MOST_FORMULAS;
 use common::MOST_USERS;
+use common::SLOT_COUNT;
 
-// What a formula is evaluated for, beside the columns: how many edges there are, the roles that the requestor holds, the object
-// and the requestor.
+// In place of a vertex in a slot that is unset.
+const NO_VERTEX: u16 = 256;
+
+// What a formula is evaluated for, beside the columns: how many edges there are, the vertex in each slot, the roles that the
+// requestor holds, the object and the requestor. The vertex that was last asked by itself changes no answer: it tells an edge scan
+// where to look first.
 struct ContextNumbers {
     edge_count: usize,
+    slots: [u16; SLOT_COUNT],
     roles: u16,
     object: u8,
     requestor: u8,
+    alone: u8,
 }
 
 // A set of vertices: for each octet whether it is in the set.
@@ -47,98 +56,98 @@ fn index(x: u8) -> usize
     x as usize
 }
 
-// ---- sets of vertices
+// ---- slots
 
-// No vertex.
-fn none() -> Vertices
-    ensures { λ r. ⌜ (length r ≡ 256) × ((v : ℕ) → isIn r v ≡ false) ⌝ }
+// The vertex in slot a; 256 where it is unset, or there is no such slot.
+fn slot_vertex(q: ContextNumbers, a: u8) -> u16
+    ensures { λ r. ⌜ slotOf r ≡ slotIn q a ⌝ }
 {
-    [false; 256]
-}
-
-// Of the asked vertices the vertex x.
-fn only<'a>(asked: &'a Vertices, x: u8) -> Vertices
-    ensures { λ r. ⌜ Among (now (asked .entry)) (λ v. eqb v x) r ⌝ }
-{
-    let mut r = none();
-    let i = index(x);
-    r[i] = asked[i];
-    r
-}
-
-// Of the asked vertices those not in t.
-fn minus(asked: Vertices, t: Vertices) -> Vertices
-    ensures { λ r. ⌜ Among asked (λ v. not (isIn t v)) r ⌝ }
-{
-    let mut r = none();
-    let mut i = 0;
-    while i < 256 {
-        r[i] = asked[i] & !t[i];
-        i += 1;
+    if HIGHEST_SLOT < a {
+        return NO_VERTEX;
     }
-    r
+    let i = a as usize;
+    q.slots[i]
 }
 
-// The vertices of a and of b.
-fn union(a: Vertices, b: Vertices) -> Vertices
-    ensures { λ r. ⌜ ((v : ℕ) → isIn r v ≡ (isIn a v || isIn b v)) ⌝ }
+// With the vertex v asked by itself.
+fn asking(mut q: ContextNumbers, v: u8) -> ContextNumbers
+    ensures { λ r. ⌜ (r .«edge_count» ≡ q .«edge_count») × ((labels from to : List ℕ) →
+        contextIn r labels from to ≡ contextIn q labels from to) ⌝ }
 {
-    let mut r = none();
-    let mut i = 0;
-    while i < 256 {
-        r[i] = a[i] | b[i];
-        i += 1;
-    }
-    r
+    q.alone = v;
+    q
 }
 
-// The vertices to which an edge with the label leads from an asked one.
-fn ends_from<'a, 'b>(
+// With the vertex v kept in slot a, whatever that held.
+fn keeping(mut q: ContextNumbers, a: u8, v: u8) -> ContextNumbers
+    ensures { λ r. ⌜ (r .«edge_count» ≡ q .«edge_count») × ((labels from to : List ℕ) →
+        contextIn r labels from to ≡ keep (contextIn q labels from to) a v) ⌝ }
+{
+    if a <= HIGHEST_SLOT {
+        let i = a as usize;
+        q.slots[i] = v as u16;
+    }
+    q
+}
+
+// Of the asked vertices the one in slot a: op 10.
+fn in_slot<'a>(q: ContextNumbers, a: u8, asked: &'a Vertices) -> Vertices
+    ensures { λ r. ⌜ Among (now (asked .entry)) (λ v. trueOf (slotIn q a) (λ w. eqb v w)) r ⌝ }
+{
+    let v = slot_vertex(q, a);
+    if NO_VERTEX <= v {
+        return vertices::none();
+    }
+    vertices::only(asked, v as u8)
+}
+
+// Formula g is marked.
+fn is_marked(marks: [bool; MOST_FORMULAS], g: u8) -> bool
+    ensures { λ r. ⌜ r ≡ isIn marks g ⌝ }
+{
+    let i = index(g);
+    if i < MOST_FORMULAS {
+        return marks[i];
+    }
+    false
+}
+
+// The formula (op, left, right) reads slot a, where the formulas that do are marked among those below it.
+fn reads_by_parts<'a>(op: u8, left: u8, right: u8, a: u8, marks: &'a [bool; MOST_FORMULAS]) -> bool
+    ensures { λ r. ⌜ r ≡ readsOf (opOf op) left right (isIn (now (marks .entry))) a ⌝ }
+{
+    let x = is_marked(*marks, left);
+    let y = is_marked(*marks, right);
+    match op {
+        4 => x,
+        5..=6 => x | y,
+        7..=8 => y,
+        9 => (left != a) & y,
+        10 => left == a,
+        11 => (left == a) | y,
+        _ => false,
+    }
+}
+
+// Formula f, if it is below n, reads what slot a holds where f is evaluated.
+fn reads_slot<'a>(
+    ops: &'a [u8; MOST_FORMULAS],
+    lefts: &'a [u8; MOST_FORMULAS],
+    rights: &'a [u8; MOST_FORMULAS],
     n: usize,
-    labels: &'a [u8; MOST_EDGES],
-    label: u8,
-    starts: &'a [u8; MOST_EDGES],
-    ends: &'a [u8; MOST_EDGES],
-    asked: &'b Vertices,
-) -> Vertices
-    requires { ⌜ n ≤ mostEdges ⌝ }
-    ensures { λ r. ⌜ ((v : ℕ) → isIn r v ≡
-        leads (edgesIn n (now (labels .entry)) (now (starts .entry)) (now (ends .entry))) 2 1 label (isIn (now (asked .entry))) v) ⌝ }
+    f: u8,
+    a: u8,
+) -> bool
+    requires { ⌜ n ≤ mostFormulas ⌝ }
+    ensures { λ r. ⌜ r ≡ readsSlot (formulasIn (now (ops .entry)) (now (lefts .entry)) (now (rights .entry))) n f a ⌝ }
 {
-    let mut r = none();
+    let mut marks = [false; MOST_FORMULAS];
     let mut i = 0;
     while i < n {
-        let x = index(starts[i]);
-        let y = index(ends[i]);
-        r[y] = r[y] | ((labels[i] == label) & asked[x]);
+        marks[i] = reads_by_parts(ops[i], lefts[i], rights[i], a, &marks);
         i += 1;
     }
-    r
-}
-
-// Of the asked vertices those from which an edge with the label leads to one of `found`.
-fn starts_to<'a, 'b, 'c>(
-    n: usize,
-    labels: &'a [u8; MOST_EDGES],
-    label: u8,
-    starts: &'a [u8; MOST_EDGES],
-    ends: &'a [u8; MOST_EDGES],
-    asked: &'b Vertices,
-    found: &'c Vertices,
-) -> Vertices
-    requires { ⌜ n ≤ mostEdges ⌝ }
-    ensures { λ r. ⌜ Among (now (asked .entry))
-        (leads (edgesIn n (now (labels .entry)) (now (starts .entry)) (now (ends .entry))) 1 2 label (isIn (now (found .entry)))) r ⌝ }
-{
-    let mut r = none();
-    let mut i = 0;
-    while i < n {
-        let x = index(starts[i]);
-        let y = index(ends[i]);
-        r[x] = r[x] | ((labels[i] == label) & asked[x] & found[y]);
-        i += 1;
-    }
-    r
+    is_marked(marks, f)
 }
 
 // ---- formulas
@@ -146,18 +155,18 @@ fn starts_to<'a, 'b, 'c>(
 // Of the asked vertices those where a formula without parts is true: op 0 to 3, with its a.
 fn plain<'a>(q: ContextNumbers, op: u8, left: u8, asked: &'a Vertices) -> Vertices
     requires { ⌜ op ≤ 3 ⌝ }
-    ensures { λ r. ⌜ ((edges : List (List ℕ)) (b : ℕ) (part : ℕ → ℕ → Bool) →
-        Among (now (asked .entry)) (meaning (contextOf (q .roles) (q .object) (q .requestor) edges) (opOf op) left b part) r) ⌝ }
+    ensures { λ r. ⌜ ((labels from to : List ℕ) (b : ℕ) (part : Context → ℕ → ℕ → Bool) →
+        Among (now (asked .entry)) (meaning (contextIn q labels from to) (opOf op) left b part) r) ⌝ }
 {
     match op {
         0 => *asked,
-        1 => only(asked, q.requestor),
-        2 => only(asked, q.object),
+        1 => vertices::only(asked, q.requestor),
+        2 => vertices::only(asked, q.object),
         3..=255 => {
             if holds_role(q.roles, left) {
                 *asked
             } else {
-                none()
+                vertices::none()
             }
         }
     }
@@ -182,7 +191,7 @@ fn evaluate<'a, 'b>(
         (contextIn q (now (labels .entry)) (now (from .entry)) (now (to .entry))) n f) r ⌝ }
 {
     if n <= f {
-        return none();
+        return vertices::none();
     }
     let op = ops[f];
     match op {
@@ -190,7 +199,10 @@ fn evaluate<'a, 'b>(
         4..=6 => connective(q, labels, from, to, ops, lefts, rights, f, asked),
         7 => scan_edges(q, labels, from, to, ops, lefts, rights, from, to, f, asked),
         8 => scan_edges(q, labels, from, to, ops, lefts, rights, to, from, f, asked),
-        9..=255 => none(),
+        9 => keep_each(q, labels, from, to, ops, lefts, rights, f, asked),
+        10 => in_slot(q, lefts[f], asked),
+        11 => at_slot(q, labels, from, to, ops, lefts, rights, f, asked),
+        12..=255 => vertices::none(),
     }
 }
 
@@ -216,17 +228,26 @@ fn connective<'a, 'b>(
     let b = index(rights[f]);
     let t = evaluate(q, labels, from, to, ops, lefts, rights, f, a, asked);
     match op {
-        4 => minus(*asked, t),
+        4 => vertices::minus(*asked, t),
         5 => evaluate(q, labels, from, to, ops, lefts, rights, f, b, &t),
         _ => {
             let u = evaluate(q, labels, from, to, ops, lefts, rights, f, b, asked);
-            union(t, u)
+            vertices::union(t, u)
         }
     }
 }
 
+// Formula b has no parts: it takes no longer to evaluate it at all vertices than at a few.
+fn has_no_parts<'a>(ops: &'a [u8; MOST_FORMULAS], b: usize) -> bool {
+    if MOST_FORMULAS <= b {
+        return false;
+    }
+    let op = ops[b];
+    (op <= 3) | (op == 10)
+}
+
 // Of the asked vertices those from which an edge with the label of formula f leads, from `starts` to `ends`, to one where its right
-// part is true. The part is asked only where such an edge ends.
+// part is true. A part that has parts itself is asked only where such an edge ends.
 fn scan_edges<'a, 'b>(
     q: ContextNumbers,
     labels: &'a [u8; MOST_EDGES],
@@ -249,9 +270,101 @@ fn scan_edges<'a, 'b>(
     let n = q.edge_count;
     let a = lefts[f];
     let b = index(rights[f]);
-    let reached = ends_from(n, labels, a, starts, ends, asked);
+    let x = q.alone;
+    let one = vertices::none_beside(asked, x);
+    if !one & has_no_parts(ops, b) {
+        let found = evaluate(
+            q,
+            labels,
+            from,
+            to,
+            ops,
+            lefts,
+            rights,
+            f,
+            b,
+            &vertices::all(),
+        );
+        return vertices::starts_to(n, labels, a, starts, ends, asked, &found);
+    }
+    let reached = vertices::reached_from(n, labels, a, starts, ends, x, one, asked);
     let found = evaluate(q, labels, from, to, ops, lefts, rights, f, b, &reached);
-    starts_to(n, labels, a, starts, ends, asked, &found)
+    vertices::leading_to(n, labels, a, starts, ends, one, asked, &found)
+}
+
+// Of the asked vertices those where formula f is true, whose op is 9: the right part is evaluated at each by itself, with that vertex
+// kept in the slot. A part that does not read the slot is evaluated at all of them together.
+fn keep_each<'a, 'b>(
+    q: ContextNumbers,
+    labels: &'a [u8; MOST_EDGES],
+    from: &'a [u8; MOST_EDGES],
+    to: &'a [u8; MOST_EDGES],
+    ops: &'a [u8; MOST_FORMULAS],
+    lefts: &'a [u8; MOST_FORMULAS],
+    rights: &'a [u8; MOST_FORMULAS],
+    f: usize,
+    asked: &'b Vertices,
+) -> Vertices
+    requires { ⌜ (q .«edge_count» ≤ mostEdges) × (f < mostFormulas) × (at (now ops) f ≡ 9) ⌝ }
+    ensures { λ r. ⌜ Among (now (asked .entry))
+        (formulaAt (formulasIn (now (ops .entry)) (now (lefts .entry)) (now (rights .entry)))
+        (contextIn q (now (labels .entry)) (now (from .entry)) (now (to .entry))) f) r ⌝ }
+{
+    let a = lefts[f];
+    let right = rights[f];
+    let b = index(right);
+    if !reads_slot(ops, lefts, rights, f, right, a) {
+        return evaluate(q, labels, from, to, ops, lefts, rights, f, b, asked);
+    }
+    let each = vertices::whole(*asked);
+    let mut r = vertices::none();
+    let mut i: usize = 0;
+    while i < 256 {
+        let k = i;
+        i += 1;
+        if each[k] {
+            let v = k as u8;
+            let kept = keeping(asking(q, v), a, v);
+            let one = vertices::only(asked, v);
+            let t = evaluate(kept, labels, from, to, ops, lefts, rights, f, b, &one);
+            r[k] = t[k];
+        }
+    }
+    r
+}
+
+// The asked vertices if formula f is true, whose op is 11: its right part is evaluated at the vertex in the slot. Else none.
+fn at_slot<'a, 'b>(
+    q: ContextNumbers,
+    labels: &'a [u8; MOST_EDGES],
+    from: &'a [u8; MOST_EDGES],
+    to: &'a [u8; MOST_EDGES],
+    ops: &'a [u8; MOST_FORMULAS],
+    lefts: &'a [u8; MOST_FORMULAS],
+    rights: &'a [u8; MOST_FORMULAS],
+    f: usize,
+    asked: &'b Vertices,
+) -> Vertices
+    requires { ⌜ (q .«edge_count» ≤ mostEdges) × (f < mostFormulas) × (at (now ops) f ≡ 11) ⌝ }
+    ensures { λ r. ⌜ Among (now (asked .entry))
+        (formulaAt (formulasIn (now (ops .entry)) (now (lefts .entry)) (now (rights .entry)))
+        (contextIn q (now (labels .entry)) (now (from .entry)) (now (to .entry))) f) r ⌝ }
+{
+    let b = index(rights[f]);
+    let v = slot_vertex(q, lefts[f]);
+    if NO_VERTEX <= v {
+        return vertices::none();
+    }
+    let x = v as u8;
+    let i = index(x);
+    let mut one = vertices::none();
+    one[i] = true;
+    let alone = asking(q, x);
+    let t = evaluate(alone, labels, from, to, ops, lefts, rights, f, b, &one);
+    if t[i] {
+        return *asked;
+    }
+    vertices::none()
 }
 
 // Whether formula f is true at the object.
@@ -275,13 +388,15 @@ pub fn true_at_object<'a>(
 {
     let q = ContextNumbers {
         edge_count: edge_count,
+        slots: [NO_VERTEX; SLOT_COUNT],
         roles: roles,
         object: object,
         requestor: requestor,
+        alone: object,
     };
     let n = MOST_FORMULAS;
     let here = index(object);
-    let mut asked = none();
+    let mut asked = vertices::none();
     asked[here] = true;
     let found = evaluate(q, labels, from, to, ops, lefts, rights, n, f, &asked);
     found[here]

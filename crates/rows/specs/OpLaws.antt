@@ -9,8 +9,8 @@ use lib.Dec.{ltb, leb, eqb}
 use borrow.Author.Tests.{ne-eqb}
 use Rattle.rows.specs.Op.{unknown, opOf, partsInRange, heightOf}
 
--- an op above 8 is unknown
-pub op-above : (op : ℕ) → 8 < op → opOf op ≡ unknown
+-- an op above 11 is unknown
+pub op-above : (op : ℕ) → 11 < op → opOf op ≡ unknown
 op-above op l =
     rw (
       ne-eqb op 0 (λ e. omega arith),
@@ -22,6 +22,9 @@ op-above op l =
       ne-eqb op 6 (λ e. omega arith),
       ne-eqb op 7 (λ e. omega arith),
       ne-eqb op 8 (λ e. omega arith),
+      ne-eqb op 9 (λ e. omega arith),
+      ne-eqb op 10 (λ e. omega arith),
+      ne-eqb op 11 (λ e. omega arith),
     )
 
 -- a range of two numbers
@@ -47,7 +50,16 @@ module _ (i a b : ℕ) where
   pub parts-step : (op : ℕ) → 7 ≤ op → op ≤ 8 → (leb a 15 && ltb b i) ≡ partsInRange (opOf op) i a b
   parts-step op l h = ⊎-elim (λ e. rw e) (λ e. rw e) (either 7 op l h)
 
-  pub parts-unknown : (op : ℕ) → 8 < op → false ≡ partsInRange (opOf op) i a b
+  pub parts-keeping : (op : ℕ) → op ≡ 9 → (leb a 3 && ltb b i) ≡ partsInRange (opOf op) i a b
+  parts-keeping op e = rw e
+
+  pub parts-in-slot : (op : ℕ) → op ≡ 10 → (leb a 3 && eqb b 0) ≡ partsInRange (opOf op) i a b
+  parts-in-slot op e = rw e
+
+  pub parts-at-slot : (op : ℕ) → op ≡ 11 → (leb a 3 && ltb b i) ≡ partsInRange (opOf op) i a b
+  parts-at-slot op e = rw e
+
+  pub parts-unknown : (op : ℕ) → 11 < op → false ≡ partsInRange (opOf op) i a b
   parts-unknown op l = rw (op-above op l)
 
 module _ (a b : ℕ) (part : ℕ → ℕ) where
@@ -64,8 +76,15 @@ module _ (a b : ℕ) (part : ℕ → ℕ) where
   pub height-two : (op : ℕ) → 5 ≤ op → op ≤ 6 → suc (max (part a) (part b)) ≡ heightOf (opOf op) a b part
   height-two op l h = ⊎-elim (λ e. rw e) (λ e. rw e) (either 5 op l h)
 
-  pub height-step : (op : ℕ) → 7 ≤ op → op ≤ 8 → suc (part b) ≡ heightOf (opOf op) a b part
-  height-step op l h = ⊎-elim (λ e. rw e) (λ e. rw e) (either 7 op l h)
+  -- ops 7 to 9, and 11
+  pub height-step : (op : ℕ) → 7 ≤ op → op ≤ 9 → suc (part b) ≡ heightOf (opOf op) a b part
+  height-step op l h =
+      ⊎-elim (λ e. rw (← e) refl) (λ k. ⊎-elim (λ e. rw e) (λ e. rw e) (either 8 op k h)) (eq-or-lt-of-le l)
 
-  pub height-unknown : (op : ℕ) → 8 < op → 0 ≡ heightOf (opOf op) a b part
-  height-unknown op l = rw (op-above op l)
+  pub height-at-slot : (op : ℕ) → op ≡ 11 → suc (part b) ≡ heightOf (opOf op) a b part
+  height-at-slot op e = rw e
+
+  -- op 10, and an op above 11
+  pub height-none : (op : ℕ) → 9 < op → (op ≡ 11 → ⊥) → 0 ≡ heightOf (opOf op) a b part
+  height-none op l n =
+      ⊎-elim (λ e. rw (← e) refl) (λ k. ⊎-elim (λ e. absurd (n (sym e))) (λ m. rw (op-above op m)) (eq-or-lt-of-le k)) (eq-or-lt-of-le l)

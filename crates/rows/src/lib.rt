@@ -14,6 +14,7 @@ use common::ACCEPTED;
 use common::GREATEST_HEIGHT;
 use common::HIGHEST_LABEL;
 use common::HIGHEST_ROLE;
+use common::HIGHEST_SLOT;
 use common::MOST_DEMARCATIONS;
 use common::MOST_EDGES;
 use common::MOST_FORMULAS;
@@ -97,7 +98,7 @@ pub fn edge_refusal(row: usize, objects: u8, minimum: u32, label: u8, source: u8
     first_cause(MOST_EDGES <= row, !fits, key < minimum)
 }
 
-// The parts of a formula: formula numbers below its own, a role or label at most the highest, zero where unused.
+// The parts of a formula: formula numbers below its own, a role, label or slot at most the highest, zero where unused.
 pub fn parts_in_range(row: usize, op: u8, a: u8, b: u8) -> bool
     ensures { λ r. ⌜ r ≡ partsInRange (opOf op) row a b ⌝ }
 {
@@ -107,6 +108,9 @@ pub fn parts_in_range(row: usize, op: u8, a: u8, b: u8) -> bool
         4 => ((a as usize) < row) & (b == 0),
         5..=6 => ((a as usize) < row) & ((b as usize) < row),
         7..=8 => (a <= HIGHEST_LABEL) & ((b as usize) < row),
+        9 => (a <= HIGHEST_SLOT) & ((b as usize) < row),
+        10 => (a <= HIGHEST_SLOT) & (b == 0),
+        11 => (a <= HIGHEST_SLOT) & ((b as usize) < row),
         _ => false,
     }
 }
@@ -142,7 +146,8 @@ pub fn formula_height(op: u8, a: u8, b: u8, heights: [u8; MOST_FORMULAS]) -> u8
     match op {
         4 => x + 1,
         5..=6 => larger(x, y) + 1,
-        7..=8 => y + 1,
+        7..=9 => y + 1,
+        11 => y + 1,
         _ => 0,
     }
 }

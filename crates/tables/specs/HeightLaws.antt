@@ -26,6 +26,9 @@ height-most Op.conjunction a b n part h = omega (arith, h a, h b)
 height-most Op.disjunction a b n part h = omega (arith, h a, h b)
 height-most Op.forward a b n part h = omega (arith, h b)
 height-most Op.backward a b n part h = omega (arith, h b)
+height-most Op.keeping a b n part h = omega (arith, h b)
+height-most Op.inSlot a b n part h = omega arith
+height-most Op.atSlot a b n part h = omega (arith, h b)
 height-most Op.unknown a b n part h = omega arith
 
 -- the heights of the formulas below i

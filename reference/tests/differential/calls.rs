@@ -3,7 +3,7 @@
 use crate::policy::Lines;
 use crate::random::Random;
 use crate::support::{bundle, call, Call};
-use crate::tickets::Proposals;
+use crate::tickets::{enabled, Proposals};
 use reference::Policy;
 
 /// The kind of a ticket, the last that is known.
@@ -68,7 +68,7 @@ impl Making<'_> {
     /// One or several calls that belong together.
     fn section(&mut self) {
         let crowded = self.subject.edges.len() >= 508;
-        match self.random.below(15) {
+        match self.random.below(17) {
             0..=2 if crowded => self.several_adds(),
             0..=5 => self.questions_on_one_pair(),
             6 => self.question_amiss(),
@@ -78,6 +78,7 @@ impl Making<'_> {
             10 => self.any_edit(),
             11 | 12 => self.tickets_of_one_question(),
             13 => self.ticket_around_an_edit(),
+            14 | 15 => self.question_around_an_edit(),
             _ => self.anything(),
         }
     }
@@ -187,18 +188,56 @@ impl Making<'_> {
 
     /// The same ticket before an edit, after it, and after it is undone.
     fn ticket_around_an_edit(&mut self) {
-        let new = self.new_edge();
-        let old = self.old_edge().unwrap_or(new);
-        let edge = self.random.pick(&[new, old, old]);
-        let question = self.about(edge);
+        let (edge, question) = self.edit_and_question();
         let proposals = self.proposals(question);
         let set = proposals.set(self.random);
+        self.around_an_edit(edge, |making| making.push_ticket(question, set));
+    }
+
+    /// The same question before an edit, after it, and after it is undone.
+    fn question_around_an_edit(&mut self) {
+        let (edge, [method, object, requestor]) = self.edit_and_question();
+        let asked = self.question_kind();
+        let kind = self.random.pick(&[asked, asked, 4, 5]);
+        self.questions = self.questions.saturating_sub(2);
+        self.around_an_edit(edge, |making| {
+            making.push([kind, method, object, requestor])
+        });
+    }
+
+    /// A call before an edit of an edge, after it, and after it is undone.
+    fn around_an_edit(&mut self, edge: [u8; 3], call: impl Fn(&mut Self)) {
         let kind = self.random.octet_between(0, 1);
-        self.push_ticket(question, set);
+        call(self);
         for kind in [kind, 1 - kind] {
             self.edit(kind, edge);
-            self.push_ticket(question, set);
+            call(self);
         }
+    }
+
+    /// An edge to be edited and a question about it; of a few, the first that the edit decides.
+    fn edit_and_question(&mut self) -> ([u8; 3], [u8; 3]) {
+        let mut tries = if self.subject.principals <= 10 { 5 } else { 1 };
+        loop {
+            let new = self.new_edge();
+            let old = self.old_edge().unwrap_or(new);
+            let edge = self.random.pick(&[new, old, old]);
+            let question = self.about(edge);
+            tries -= 1;
+            if tries == 0 || self.decides(edge, question) {
+                return (edge, question);
+            }
+        }
+    }
+
+    /// Whether other principals are enabled for a question once an edge is added or removed.
+    fn decides(&self, [label, from, to]: [u8; 3], question: [u8; 3]) -> bool {
+        let mut edited = self.record.clone();
+        if edited.add_edge(label, from, to) != 0 {
+            edited.remove_edge(label, from, to);
+        }
+        let count = self.subject.principals;
+        enabled(&self.record, question, count) != enabled(&edited, question, count)
     }
 
     /// A question or a ticket with one or more numbers out of range.

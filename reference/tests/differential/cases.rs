@@ -52,7 +52,7 @@ fn any_valid(random: &mut Random) -> Case {
 
 /// A small valid bundle with few calls, to stand beside a case.
 pub fn beside(random: &mut Random) -> Case {
-    let sizes = Sizes::small(random);
+    let sizes = Sizes::small(random).naming(random);
     let lines = policy(random, &sizes);
     Case {
         kind: "valid, beside a case".to_string(),
@@ -64,7 +64,8 @@ pub fn beside(random: &mut Random) -> Case {
 
 /// A valid bundle and a list of calls.
 fn valid(random: &mut Random, sizes: &Sizes, kind: &str) -> Case {
-    let lines = policy(random, sizes);
+    let sizes = sizes.naming(random);
+    let lines = policy(random, &sizes);
     let length = random.between(4, 24);
     Case {
         kind: format!("valid, {kind}"),
@@ -118,9 +119,9 @@ fn resealed(random: &mut Random) -> Case {
 fn base(random: &mut Random) -> Sizes {
     if random.one_in(60) {
         let limit = random.below(LIMITS.len());
-        return Sizes::at_limit(random, limit);
+        return Sizes::at_limit(random, limit).naming(random);
     }
-    Sizes::rich(random)
+    Sizes::rich(random).naming(random)
 }
 
 /// A short list, for a bundle that will mostly be refused or stands beside another one.

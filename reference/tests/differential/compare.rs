@@ -5,8 +5,8 @@ use crate::engine;
 use crate::outcome::{same_if, Checked, Outcome};
 use crate::parts;
 use crate::random::Random;
-use crate::support::principal_count;
 use crate::tally::Tally;
+use crate::watch::Watch;
 use reference::CALL_OCTETS;
 
 /// Runs the same call on both, which must return the same and leave the same bytes.
@@ -24,52 +24,59 @@ fn both(
 
 /// Compares everything on one case.
 pub fn compare(case: &Case, random: &mut Random, tally: &mut Tally) -> Checked<()> {
-    let number = rewrites(case, random, tally)?;
-    tally.bundle(number, case.valid.as_ref());
-    replay_whole(case, random, tally)?;
+    let outcome = rewrites(case, random, tally)?;
+    tally.bundle(&outcome, case);
+    let loads = outcome.number() == 0;
+    let watch = loads.then(|| Watch::of(&case.text, &case.calls));
+    replay_whole(case, watch.clone(), random, tally)?;
     replay_short(case, random)?;
-    parts::compare(case, number == 0, random, tally)
+    parts::compare(case, watch, random, tally)
 }
 
-/// Compares rewriting into buffers of the right size, one short, larger, and none at all.
-fn rewrites(case: &Case, random: &mut Random, tally: &mut Tally) -> Checked<u64> {
+/// Compares rewriting into buffers of the right size, one short, larger, and none at all; what came
+/// of the first.
+fn rewrites(case: &Case, random: &mut Random, tally: &mut Tally) -> Checked<Outcome> {
     let exact = case.text.len();
-    let number = rewrite(case, exact, random.octet())?;
+    let outcome = rewrite(case, exact, random.octet())?;
     let larger = exact + random.between(1, 100);
     for length in [exact.saturating_sub(1), random.below(exact), larger, 0] {
-        let number = rewrite(case, length, random.octet())?;
-        tally.written(number);
+        let outcome = rewrite(case, length, random.octet())?;
+        tally.written(outcome.number());
     }
-    Ok(number)
+    Ok(outcome)
 }
 
 /// Compares rewriting once; whatever is written must be the text that was read.
-fn rewrite(case: &Case, length: usize, fill: u8) -> Checked<u64> {
+fn rewrite(case: &Case, length: usize, fill: u8) -> Checked<Outcome> {
     let text = &case.text[..];
     let of_reference = |out: &mut [u8]| reference::rewrite(text, out);
     let of_engine = |out: &mut [u8]| engine::rewrite(text, out);
     let what = format!("rewrite into {length} bytes");
     let outcome = both(what, (length, fill), of_reference, of_engine)?;
-    let number = outcome.number();
     let written = length >= text.len() && outcome.buffer().starts_with(text);
-    let right = match number {
+    let right = match outcome.number() {
         0 => written && outcome.value == text.len() as u64,
         18 => length < text.len(),
         _ => case.valid.is_none(),
     };
     let again = Outcome::of(length, fill, of_engine);
     let what = format!("rewrite into {length} bytes: not what the text asks for");
-    same_if(right, what, outcome, again).map(|_| number)
+    same_if(right, what, outcome, again)
 }
 
-/// Compares all calls with room for all answers, and a little more.
-fn replay_whole(case: &Case, random: &mut Random, tally: &mut Tally) -> Checked<()> {
+/// Compares all calls with room for all answers, and a little more; those of a bundle that loads
+/// are watched.
+fn replay_whole(
+    case: &Case,
+    watch: Option<Watch>,
+    random: &mut Random,
+    tally: &mut Tally,
+) -> Checked<()> {
     let calls = case.calls.as_flattened();
     let length = 5 * case.calls.len() + random.below(8);
     let outcome = replay(case, calls, (length, random.octet()))?;
-    if outcome.number() == 0 {
-        let answers = outcome.buffer().chunks_exact(5);
-        tally.list(&case.calls, answers, principal_count(&case.text));
+    if let Some(watch) = watch {
+        tally.list(case, outcome.buffer().chunks_exact(5), watch);
     }
     Ok(())
 }

@@ -11,17 +11,29 @@ const COSTLIEST: u64 = 20_000;
 pub struct Formulas<'a> {
     edges: &'a [[u8; 3]],
     labels: &'a [u8],
+    slots: &'a [u8],
     lines: Lines,
     heights: Vec<u8>,
     costs: Vec<u64>,
 }
 
+/// The formulas that a formula names.
+pub fn children([op, a, b]: [u8; 3]) -> Vec<u8> {
+    match op {
+        4 => vec![a],
+        5 | 6 => vec![a, b],
+        7 | 8 | 9 | 11 => vec![b],
+        _ => Vec::new(),
+    }
+}
+
 impl Formulas<'_> {
-    /// No formulas yet, to be evaluated over these edges.
-    pub fn over<'a>(edges: &'a [[u8; 3]], labels: &'a [u8]) -> Formulas<'a> {
+    /// No formulas yet, to be evaluated over these edges, with ops 9 to 11 on these slots.
+    pub fn over<'a>(edges: &'a [[u8; 3]], labels: &'a [u8], slots: &'a [u8]) -> Formulas<'a> {
         Formulas {
             edges,
             labels,
+            slots,
             lines: Vec::new(),
             heights: Vec::new(),
             costs: Vec::new(),
@@ -33,11 +45,15 @@ impl Formulas<'_> {
         while self.lines.len() < sizes.formulas {
             let own = self.lines.len();
             let in_tower = sizes.tower && (1..=8).contains(&own);
+            if own > 0 && !in_tower && self.has_slots() && random.one_in(2) {
+                self.sentence(random);
+                continue;
+            }
             let formula = match own {
                 0 if sizes.top => [3, 15, 0],
-                0 => leaf(random, sizes),
+                0 => self.leaf(random, sizes),
                 _ if in_tower => self.compound(random, own - 1),
-                _ if random.one_in(3) => leaf(random, sizes),
+                _ if random.one_in(3) => self.leaf(random, sizes),
                 _ => {
                     let child = random.below(own).max(random.below(own));
                     self.compound(random, child)
@@ -47,19 +63,106 @@ impl Formulas<'_> {
                 self.take([4, own as u8 - 1, 0]);
             }
         }
+        self.lines.truncate(sizes.formulas);
         self.lines
     }
 
-    /// A formula of op 4 to 8 with this child, and any other where it has two.
+    /// Whether ops 9 to 11 are drawn. Where they are not, nothing is drawn for their sake.
+    fn has_slots(&self) -> bool {
+        !self.slots.is_empty()
+    }
+
+    /// A formula of op 0 to 3, oftener true where sets are to grow; with slots, now and then op 10.
+    fn leaf(&self, random: &mut Random, sizes: &Sizes) -> [u8; 3] {
+        if self.has_slots() && random.one_in(3) {
+            return [10, random.pick(self.slots), 0];
+        }
+        match random.below(6) {
+            0 => [0, 0, 0],
+            1 | 2 if sizes.joint => [0, 0, 0],
+            1 | 2 => [1, 0, 0],
+            3 => [2, 0, 0],
+            _ => [3, random.octet_between(0, 15), 0],
+        }
+    }
+
+    /// A formula of op 4 to 8 with this child, and any other where it has two; with slots, now and
+    /// then op 9 or 11.
     fn compound(&self, random: &mut Random, child: usize) -> [u8; 3] {
         let other = random.below(self.lines.len()) as u8;
         let child = child as u8;
+        if self.has_slots() && random.one_in(3) {
+            let op = random.pick(&[9, 9, 11]);
+            return [op, random.pick(self.slots), child];
+        }
         match random.octet_between(4, 9) {
             4 => [4, child, 0],
             5 => [5, child, other],
             6 => [6, other, child],
             op => [op.min(8), random.pick(self.labels), child],
         }
+    }
+
+    /// Formulas that say together: a vertex is kept, and some steps on it is asked for. On the way
+    /// another one may be kept, around what follows or beside it.
+    fn sentence(&mut self, random: &mut Random) {
+        let slot = random.pick(self.slots);
+        let looked = self.look(random, slot);
+        let mut number = self.steps(random, looked);
+        let inner_slot = self.near(random, slot);
+        match random.below(3) {
+            0 => {
+                let inner = self.add([9, inner_slot, number]);
+                number = self.steps(random, inner);
+            }
+            1 => {
+                let other = self.look(random, inner_slot);
+                let inner = self.add([9, inner_slot, other]);
+                let op = random.pick(&[5, 6]);
+                let pair = random.pick(&[[inner, number], [number, inner]]);
+                number = self.add([op, pair[0], pair[1]]);
+                number = self.steps(random, number);
+            }
+            _ => (),
+        }
+        let kept = self.add([9, slot, number]);
+        self.steps(random, kept);
+    }
+
+    /// A slot is looked at: whether it holds here, or what is true at its vertex; or the opposite.
+    fn look(&mut self, random: &mut Random, slot: u8) -> u8 {
+        let slot = self.near(random, slot);
+        let look = if random.one_in(2) {
+            self.add([10, slot, 0])
+        } else {
+            let other = self.near(random, slot);
+            let leaf = self.add(random.pick(&[[1, 0, 0], [2, 0, 0], [10, other, 0]]));
+            self.add([11, slot, leaf])
+        };
+        match random.one_in(3) {
+            true => self.add([4, look, 0]),
+            false => look,
+        }
+    }
+
+    /// Mostly this slot, or else any.
+    fn near(&self, random: &mut Random, slot: u8) -> u8 {
+        let any = random.pick(self.slots);
+        random.pick(&[slot, slot, any])
+    }
+
+    /// None to two steps around a formula.
+    fn steps(&mut self, random: &mut Random, number: u8) -> u8 {
+        let steps = random.pick(&[0, 1, 1, 2]);
+        (0..steps).fold(number, |number, _| {
+            self.add([random.pick(&[7, 8]), random.pick(self.labels), number])
+        })
+    }
+
+    /// The number of a formula that is taken up, or else of the last one.
+    fn add(&mut self, formula: [u8; 3]) -> u8 {
+        self.take(formula);
+        self.lines.len() as u8 - 1
     }
 
     /// Takes a formula up unless it is too high or too costly.
@@ -87,6 +190,7 @@ impl Formulas<'_> {
                 1 + self.heights[second],
                 1 + self.edges.len() as u64 + self.degree(op, a) * self.costs[second],
             ),
+            9 | 11 => (1 + self.heights[second], 1 + self.costs[second]),
             _ => (0, 1),
         }
     }
@@ -99,16 +203,5 @@ impl Formulas<'_> {
             counts[usize::from(edge[end])] += 1;
         }
         counts.into_iter().max().unwrap_or(0)
-    }
-}
-
-/// A formula of op 0 to 3, oftener true where sets are to grow.
-fn leaf(random: &mut Random, sizes: &Sizes) -> [u8; 3] {
-    match random.below(6) {
-        0 => [0, 0, 0],
-        1 | 2 if sizes.joint => [0, 0, 0],
-        1 | 2 => [1, 0, 0],
-        3 => [2, 0, 0],
-        _ => [3, random.octet_between(0, 15), 0],
     }
 }

@@ -45,6 +45,24 @@ pub fn text(octets: &Lines) -> Vec<u8> {
     lines.collect::<String>().into_bytes()
 }
 
+/// The first lines of a text, at most so many, as kind and body; the loader must have passed their
+/// frames.
+pub fn first_lines(text: &[u8], count: usize) -> Lines {
+    let lines = text.split(|&byte| byte == b'\n').take(count);
+    lines.map_while(kind_and_body).collect()
+}
+
+/// What stands between length and check octet of a line; none for the empty rest after the last 0A.
+fn kind_and_body(line: &[u8]) -> Option<Vec<u8>> {
+    let octet = |pair: &[u8]| {
+        let digit = |byte: u8| char::from(byte).to_digit(16);
+        Some((16 * digit(pair[0])? + digit(pair[1])?) as u8)
+    };
+    let octets: Vec<u8> = line.chunks_exact(2).map_while(octet).collect();
+    let inner = octets.get(1..octets.len().checked_sub(1)?);
+    inner.map(<[u8]>::to_vec)
+}
+
 /// Changes a closed bundle in a random way, and names the way.
 pub fn change(random: &mut Random, octets: &mut Lines) -> &'static str {
     let (name, way) = random.pick(&WAYS);

@@ -1,5 +1,6 @@
 //! Which limits of the contract a valid bundle reaches, in the order of `LIMITS`.
 
+use crate::formulas::children;
 use crate::policy::Lines;
 use crate::sizes::LIMITS;
 
@@ -34,16 +35,17 @@ pub fn reached(lines: &Lines) -> [bool; LIMITS.len()] {
 }
 
 /// The height of the highest formula.
-fn highest(lines: &Lines) -> u8 {
+fn highest(lines: &[Vec<u8>]) -> u8 {
+    heights(lines).into_iter().max().unwrap_or(0)
+}
+
+/// The height of each formula, by number.
+pub fn heights(lines: &[Vec<u8>]) -> Vec<u8> {
     let mut heights: Vec<u8> = Vec::new();
     for line in lines.iter().filter(|line| line[0] == 4) {
-        let of = |place: usize| heights[usize::from(line[place])];
-        heights.push(match line[1] {
-            4 => 1 + of(2),
-            5 | 6 => 1 + of(2).max(of(3)),
-            7 | 8 => 1 + of(3),
-            _ => 0,
-        });
+        let children = children([line[1], line[2], line[3]]);
+        let below = children.iter().map(|&child| heights[usize::from(child)]);
+        heights.push(below.max().map_or(0, |highest| 1 + highest));
     }
-    heights.into_iter().max().unwrap_or(0)
+    heights
 }

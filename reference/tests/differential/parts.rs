@@ -11,6 +11,7 @@ use crate::support::{principal_count, Call, SMALLEST};
 use crate::tally::Tally;
 use crate::tally_lent::Event;
 use crate::tally_tickets::Setting;
+use crate::watch::{Noted, Watch};
 use reference::CALL_OCTETS;
 
 /// A lent record on its way through a list of calls.
@@ -23,20 +24,26 @@ struct Walk<'a> {
     answers: Vec<u8>,
     /// Where its answers are counted, and whether an edit was accepted.
     setting: Setting,
+    /// Which of its answers depend on a slot.
+    watch: Watch,
     /// Another record, loaded from what this one wrote, which gets the same calls.
     again: Option<Lent>,
 }
 
-/// Compares everything on lent records.
-pub fn compare(case: &Case, loads: bool, random: &mut Random, tally: &mut Tally) -> Checked<()> {
+/// Compares everything on lent records; the answers of a bundle that loads are watched.
+pub fn compare(
+    case: &Case,
+    watch: Option<Watch>,
+    random: &mut Random,
+    tally: &mut Tally,
+) -> Checked<()> {
     if random.one_in(16) {
         never_loaded(&case.calls, random, tally)?;
     }
     let beside = cases::beside(random);
-    if loads {
-        side_by_side(case, &beside, random, tally)
-    } else {
-        refused(case, &beside, random, tally)
+    match watch {
+        Some(watch) => side_by_side((case, watch), &beside, random, tally),
+        None => refused(case, &beside, random, tally),
     }
 }
 
@@ -78,16 +85,22 @@ fn never_loaded(calls: &[Call], random: &mut Random, tally: &mut Tally) -> Check
     let outcome = lent.answer(calls.as_flattened(), room)?;
     for (call, answer) in calls.iter().zip(outcome.buffer().chunks_exact(5)) {
         tally.unloadable(answer[0]);
-        tally.lent_answer(call, answer[0], on_lent(0));
+        tally.lent_answer(call, answer, on_lent(0), Noted::default());
     }
     let outcome = lent.write((random.below(60), random.octet()))?;
     tally.unloadable(outcome.number() as u8);
     Ok(())
 }
 
-/// Two records, each on its own list, in turns; then the first bundle into both.
-fn side_by_side(case: &Case, beside: &Case, random: &mut Random, tally: &mut Tally) -> Checked<()> {
+/// Two records, each on its own list, in turns, the first one watched; then its bundle into both.
+fn side_by_side(
+    (case, watch): (&Case, Watch),
+    beside: &Case,
+    random: &mut Random,
+    tally: &mut Tally,
+) -> Checked<()> {
     let mut first = Walk::start(Lent::loaded(&case.text)?, &case.text, &case.calls);
+    first.watch = watch;
     let mut second = Walk::start(Lent::loaded(&beside.text)?, &beside.text, &beside.calls);
     tally.lent(Event::SideBySide);
     while !first.is_done() || !second.is_done() {
@@ -146,7 +159,7 @@ fn load_refused(
 }
 
 impl<'a> Walk<'a> {
-    /// A record at the beginning of a list.
+    /// A record at the beginning of a list, which is not watched yet.
     fn start(lent: Lent, text: &'a [u8], calls: &'a [Call]) -> Walk<'a> {
         Walk {
             lent,
@@ -154,6 +167,7 @@ impl<'a> Walk<'a> {
             calls,
             answers: Vec::new(),
             setting: on_lent(principal_count(text)),
+            watch: Watch::default(),
             again: None,
         }
     }
@@ -197,7 +211,8 @@ impl<'a> Walk<'a> {
         let answers = &outcome.buffer()[..5 * count];
         self.answer_again(&given[..CALL_OCTETS * count], answers, random)?;
         for (call, answer) in rest.iter().zip(answers.chunks_exact(5)) {
-            tally.lent_answer(call, answer[0], self.setting);
+            let noted = self.watch.note(call, answer);
+            tally.lent_answer(call, answer, self.setting, noted);
             self.setting.edited |= call[0] <= 1 && answer[0] == 0;
         }
         self.answers.extend_from_slice(answers);

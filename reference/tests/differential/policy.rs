@@ -1,6 +1,6 @@
 //! Valid policies, as lists of lines: each is its kind and body, without the end line.
 
-use crate::formulas::Formulas;
+use crate::formulas::{children, Formulas};
 use crate::random::Random;
 use crate::sizes::Sizes;
 use crate::support::weights;
@@ -13,7 +13,8 @@ pub type Lines = Vec<Vec<u8>>;
 pub fn policy(random: &mut Random, sizes: &Sizes) -> Lines {
     let mut lines = vec![vec![1, 1, sizes.objects as u8]];
     lines.extend(graph(random, sizes));
-    lines.extend(grounds(random, sizes));
+    let whole = whole_formulas(&lines);
+    lines.extend(grounds(random, sizes, &whole));
     lines
 }
 
@@ -21,20 +22,21 @@ pub fn policy(random: &mut Random, sizes: &Sizes) -> Lines {
 fn graph(random: &mut Random, sizes: &Sizes) -> Lines {
     let pool = pool(random, sizes);
     let labels = labels(random, sizes);
+    let slots = slots(random, sizes);
     let edges = edges(random, sizes, &pool, &labels);
     let mut lines = users(random, sizes, &pool);
     lines.extend(edges.iter().map(|edge| [&[3], &edge[..]].concat()));
-    lines.extend(Formulas::over(&edges, &labels).lines(random, sizes));
+    lines.extend(Formulas::over(&edges, &labels, &slots).lines(random, sizes));
     lines
 }
 
-/// The lines from demarcations to methods.
-fn grounds(random: &mut Random, sizes: &Sizes) -> Lines {
+/// The lines from demarcations to methods; some formulas are whole.
+fn grounds(random: &mut Random, sizes: &Sizes, whole: &[u8]) -> Lines {
     let in_use = privileges(random, sizes);
     let given: Vec<u64> = (0..sizes.demarcations)
         .map(|place| demarcation(random, sizes, &in_use) | top_weight(sizes, place))
         .collect();
-    let principals = principals(random, sizes);
+    let principals = principals(random, sizes, whole);
     let count = principals.len();
     let mut lines: Lines = given.iter().map(|&all| weights(&[5], all)).collect();
     lines.extend(order(random, 6, sizes.demarcations, sizes.hierarchy));
@@ -65,6 +67,16 @@ fn labels(random: &mut Random, sizes: &Sizes) -> Vec<u8> {
         labels.push(15);
     }
     labels
+}
+
+/// The slots in use. Where there are none, nothing is drawn.
+fn slots(random: &mut Random, sizes: &Sizes) -> Vec<u8> {
+    let mut slots: Vec<u8> = (0..4).collect();
+    if sizes.slots > 0 {
+        random.shuffle(&mut slots);
+    }
+    slots.truncate(sizes.slots);
+    slots
 }
 
 /// The privileges in use, as weights, with 2^63 among them where the top values are asked for.
@@ -136,13 +148,26 @@ fn listed(random: &mut Random, weights: &[u64], most: usize) -> u64 {
     (0..count).fold(0, |all, _| all | random.pick(weights))
 }
 
-/// Principals with any formula and demarcation; none where there is nothing to name.
-fn principals(random: &mut Random, sizes: &Sizes) -> Lines {
+/// The formulas that no other one uses.
+fn whole_formulas(lines: &Lines) -> Vec<u8> {
+    let formulas = lines.iter().filter(|line| line[0] == 4);
+    let formulas: Vec<[u8; 3]> = formulas.map(|line| [line[1], line[2], line[3]]).collect();
+    let used: BTreeSet<u8> = formulas.iter().copied().flat_map(children).collect();
+    let numbers = 0..formulas.len() as u8;
+    numbers.filter(|number| !used.contains(number)).collect()
+}
+
+/// Principals with any formula and demarcation; none where there is nothing to name. With slots,
+/// half of them have a whole formula, as these are where slots are set.
+fn principals(random: &mut Random, sizes: &Sizes, whole: &[u8]) -> Lines {
     if sizes.formulas == 0 || sizes.demarcations == 0 {
         return Vec::new();
     }
     let mut principal = || {
-        let formula = random.below(sizes.formulas) as u8;
+        let formula = match sizes.slots > 0 && random.one_in(2) {
+            true => random.pick(whole),
+            false => random.below(sizes.formulas) as u8,
+        };
         vec![7, formula, random.below(sizes.demarcations) as u8]
     };
     (0..sizes.principals).map(|_| principal()).collect()

@@ -9,7 +9,7 @@ use std::collections::BTreeSet;
 type Change = fn(&mut Random, &mut Lines);
 
 /// Every way, by the name that a report gives it.
-const WAYS: [(&str, Change); 21] = [
+const WAYS: [(&str, Change); 24] = [
     ("a wrong head", wrong_head),
     ("a body number altered", body_number),
     ("a body number altered", body_number),
@@ -30,7 +30,10 @@ const WAYS: [(&str, Change); 21] = [
     ("a formula of itself or a later one", formula_of_later),
     ("height 8 or 9", tower),
     ("an unused a or b", unused_number),
-    ("an op above 8", op_above_8),
+    ("an op above 11", op_above_11),
+    ("height 8 or 9 by op 9 or 11", tower_with_slots),
+    ("a slot above 3", slot_above_3),
+    ("op 10 with a b", op_10_with_b),
 ];
 
 /// Changes lines in a random way, and names the way.
@@ -64,7 +67,7 @@ fn body_number(random: &mut Random, lines: &mut Lines) {
     let Some(&old) = lines[line].get(octet) else {
         return;
     };
-    let telling = [0, 1, 2, 8, 9, 15, 16, 19, 20, 64, 254, 255];
+    let telling = [0, 1, 2, 3, 4, 8, 9, 11, 12, 15, 16, 19, 20, 64, 254, 255];
     let near = [old.wrapping_add(1), old.wrapping_sub(1), random.octet()];
     lines[line][octet] = if random.one_in(2) {
         random.pick(&near)
@@ -244,15 +247,23 @@ fn formula_of_later(random: &mut Random, lines: &mut Lines) {
         [6, 0, later],
         [7, 0, later],
         [8, 0, later],
+        [9, 3, later],
+        [11, 0, later],
     ];
     put_formula(lines, random.pick(&formulas));
 }
 
 /// A leaf and eight or nine formulas of which each has the one before as a child.
 fn tower(random: &mut Random, lines: &mut Lines) {
-    let op = random.octet_between(0, 3);
+    let stories = random.between(8, 9);
+    build(random, lines, stories);
+}
+
+/// A leaf and so many formulas of which each has the one before as a child.
+fn build(random: &mut Random, lines: &mut Lines, stories: usize) {
+    let op = random.pick(&[0, 1, 2, 3, 10]);
     put_formula(lines, [op, 0, 0]);
-    for _ in 0..random.between(8, 9) {
+    for _ in 0..stories {
         let before = count(lines, 4) as u8 - 1;
         let formulas = [
             [4, before, 0],
@@ -261,9 +272,20 @@ fn tower(random: &mut Random, lines: &mut Lines) {
             [6, 0, before],
             [7, 15, before],
             [8, 0, before],
+            [9, 1, before],
+            [11, 3, before],
         ];
         put_formula(lines, random.pick(&formulas));
     }
+}
+
+/// A tower of height 8 or 9 whose highest formula has op 9 or 11.
+fn tower_with_slots(random: &mut Random, lines: &mut Lines) {
+    let stories = random.between(7, 8);
+    build(random, lines, stories);
+    let before = count(lines, 4) as u8 - 1;
+    let op = random.pick(&[9, 11]);
+    put_formula(lines, [op, random.octet_between(0, 3), before]);
 }
 
 /// A formula of op 0 to 4 with something where 0 belongs, or a role or label of 16 and above.
@@ -286,8 +308,23 @@ fn unused_number(random: &mut Random, lines: &mut Lines) {
 }
 
 /// A formula of an unknown op.
-fn op_above_8(random: &mut Random, lines: &mut Lines) {
-    let any = random.octet_between(10, 255);
-    let op = random.pick(&[9, any]);
+fn op_above_11(random: &mut Random, lines: &mut Lines) {
+    let any = random.octet_between(13, 255);
+    let op = random.pick(&[12, any]);
     put_formula(lines, [op, 0, 0]);
+}
+
+/// A formula of op 9 to 11 with a slot that is not there.
+fn slot_above_3(random: &mut Random, lines: &mut Lines) {
+    let op = random.octet_between(9, 11);
+    let any = random.octet_between(4, 255);
+    let slot = random.pick(&[4, 4, 5, 15, any]);
+    put_formula(lines, [op, slot, 0]);
+}
+
+/// A formula of op 10 with something where 0 belongs.
+fn op_10_with_b(random: &mut Random, lines: &mut Lines) {
+    let any = random.octet_between(1, 255);
+    let b = random.pick(&[1, any]);
+    put_formula(lines, [10, random.octet_between(0, 3), b]);
 }

@@ -12,6 +12,8 @@ pub struct Sizes {
     pub formulas: usize,
     /// Whether the first formulas form a tower of height 8.
     pub tower: bool,
+    /// From how many slots ops 9 to 11 are drawn; with 0 there are none of these ops.
+    pub slots: usize,
     pub demarcations: usize,
     pub hierarchy: usize,
     pub principals: usize,
@@ -63,6 +65,7 @@ impl Sizes {
             edges: random.between(0, if wide { 90 } else { 14 }),
             formulas: random.between(1, if wide { 30 } else { 9 }),
             tower: random.one_in(12),
+            slots: 0,
             demarcations: random.between(least, 6),
             hierarchy: random.below(4),
             principals,
@@ -73,6 +76,19 @@ impl Sizes {
             top: random.one_in(6),
             joint,
         }
+    }
+
+    /// Now and then the same, oftener where sets are to grow; else with ops 9 to 11, mostly on few
+    /// slots, so that they meet, and with some formulas more, if there are any.
+    pub fn naming(mut self, random: &mut Random) -> Sizes {
+        self.slots = match self.joint && random.one_in(2) {
+            true => 0,
+            false => random.pick(&[0, 0, 1, 1, 1, 2, 2, 3, 4]),
+        };
+        if self.slots > 0 && self.formulas > 0 {
+            self.formulas = 64.min(self.formulas + random.between(2, 8));
+        }
+        self
     }
 
     /// Now and then a kind of line is missing altogether.
@@ -178,6 +194,7 @@ impl Sizes {
             edges: 512,
             formulas: 64,
             tower: true,
+            slots: 0,
             demarcations: 20,
             hierarchy: 190,
             principals: 20,

@@ -1,12 +1,15 @@
 //! What a run came across, counted on results that both implementations agree on.
 
 use crate::calls::TICKET;
+use crate::cases::Case;
 use crate::limits::reached;
-use crate::policy::Lines;
+use crate::outcome::Outcome;
 use crate::sizes::LIMITS;
-use crate::support::Call;
+use crate::support::principal_count;
 use crate::tally_lent::{Counts, Event};
+use crate::tally_naming::Naming;
 use crate::tally_tickets::{Setting, Tickets};
+use crate::watch::{Noted, Watch};
 use reference::CALL_OCTETS;
 
 /// Each refusal must occur at least so often in a run.
@@ -60,15 +63,18 @@ pub struct Tally {
     limits: [u64; LIMITS.len()],
     lent: Counts,
     tickets: Tickets,
+    naming: Naming,
 }
 
 impl Tally {
-    /// Counts a bundle by the number that loading returned.
-    pub fn bundle(&mut self, number: u64, valid: Option<&Lines>) {
+    /// Counts a case's bundle by what came of rewriting it.
+    pub fn bundle(&mut self, outcome: &Outcome, case: &Case) {
+        let number = outcome.number();
         self.bundles += 1;
         self.refused(number);
         self.loaded += u64::from(number == 0);
-        if let Some(lines) = valid {
+        self.naming.bundle(outcome, case);
+        if let Some(lines) = &case.valid {
             let places = self.limits.iter_mut().zip(reached(lines));
             places.for_each(|(count, reached)| *count += u64::from(reached));
         }
@@ -106,9 +112,10 @@ impl Tally {
         self.lent.add(Event::TicketsAlone, tickets);
     }
 
-    /// Counts an answer on a lent record, if it is to a ticket.
-    pub fn lent_answer(&mut self, call: &[u8], number: u8, setting: Setting) {
-        self.tickets.add(call, number, setting);
+    /// Counts an answer on a lent record, if it is to a ticket or depends on a slot.
+    pub fn lent_answer(&mut self, call: &[u8], answer: &[u8], setting: Setting, noted: Noted) {
+        self.tickets.add(call, answer[0], setting);
+        self.naming.answer(call, answer, setting, noted);
     }
 
     /// Counts a write of a lent record.
@@ -129,23 +136,26 @@ impl Tally {
         }
     }
 
-    /// Counts the answers to a list of calls.
+    /// Counts the answers to the calls of a case, watched from their beginning.
     pub fn list<'a>(
         &mut self,
-        calls: &[Call],
+        case: &Case,
         answers: impl Iterator<Item = &'a [u8]>,
-        principal_count: usize,
+        mut watch: Watch,
     ) {
+        let calls = &case.calls;
         self.lists += u64::from(!calls.is_empty());
         let mut setting = Setting {
             lent: false,
             edited: false,
-            principal_count,
+            principal_count: principal_count(&case.text),
         };
         for (call, answer) in calls.iter().zip(answers) {
             self.calls += 1;
-            self.answer(call[0], answer, principal_count > 0);
+            self.answer(call[0], answer, setting.principal_count > 0);
             self.tickets.add(call, answer[0], setting);
+            let noted = watch.note(call, answer);
+            self.naming.answer(call, answer, setting, noted);
             setting.edited |= call[0] <= 1 && answer[0] == 0;
         }
     }
@@ -190,6 +200,7 @@ impl Tally {
         }
         self.print_answers();
         self.tickets.print();
+        self.naming.print();
         self.lent.print();
         println!("\nvalid bundles by the limits they reach");
         for (name, count) in LIMITS.iter().zip(self.limits) {
@@ -226,6 +237,7 @@ impl Tally {
         let missed = LIMITS.iter().zip(self.limits).filter(|limit| limit.1 == 0);
         gaps.extend(missed.map(|(name, _)| format!("no bundle reached: {name}")));
         gaps.extend(self.tickets.gaps(LEAST));
+        gaps.extend(self.naming.gaps(LEAST));
         gaps.extend(self.lent.gaps());
         gaps
     }

@@ -12,6 +12,13 @@ pub struct Setting {
     pub principal_count: usize,
 }
 
+impl Setting {
+    /// Its place among the settings that are told apart.
+    pub fn column(self) -> usize {
+        2 * usize::from(self.lent) + usize::from(self.edited)
+    }
+}
+
 /// The answers, by number; 20 has two causes.
 const ANSWERS: [(u8, &str); 9] = [
     (0, "accepted"),
@@ -26,7 +33,7 @@ const ANSWERS: [(u8, &str); 9] = [
 ];
 
 /// The settings that are told apart.
-const SETTINGS: [&str; 4] = ["replay", "replay, edited", "lent", "lent, edited"];
+pub const SETTINGS: [&str; 4] = ["replay", "replay, edited", "lent", "lent, edited"];
 
 /// The counts, by answer and setting.
 #[derive(Default)]
@@ -43,8 +50,7 @@ impl Tickets {
             .iter()
             .fold(0, |set, &octet| set << 8 | u32::from(octet));
         let not_enabled = number == 20 && set >> setting.principal_count == 0;
-        let column = 2 * usize::from(setting.lent) + usize::from(setting.edited);
-        self.0[row + usize::from(not_enabled)][column] += 1;
+        self.0[row + usize::from(not_enabled)][setting.column()] += 1;
     }
 
     /// Prints them.

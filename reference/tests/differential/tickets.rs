@@ -12,6 +12,14 @@ pub struct Proposals {
     granted: Option<u32>,
 }
 
+/// The set of all enabled principals; where the question is refused with 14 to 16, all of them.
+pub fn enabled(record: &Policy, question: [u8; 3], principal_count: usize) -> u32 {
+    let [method, object, requestor] = question;
+    let alone = |p: &usize| record.check_ticket(method, object, requestor, 1 << p);
+    let enabled = (0..principal_count).filter(|p| alone(p) != 20);
+    enabled.fold(0, |set, p| set | 1 << p)
+}
+
 impl Proposals {
     /// Those of a question on a record; what it grants is looked for only if that is affordable.
     pub fn of(
@@ -20,14 +28,12 @@ impl Proposals {
         principal_count: usize,
         affordable: bool,
     ) -> Proposals {
-        let alone = |p: &usize| record.check_ticket(method, object, requestor, 1 << p);
-        let enabled = (0..principal_count).filter(|p| alone(p) != 20);
         let granted = affordable
             .then(|| record.clone().ask_lazy(method, object, requestor))
             .filter(|answer| answer.number == 0);
         Proposals {
             principal_count,
-            enabled: enabled.fold(0, |set, p| set | 1 << p),
+            enabled: enabled(record, [method, object, requestor], principal_count),
             granted: granted.map(|answer| answer.set),
         }
     }

@@ -74,6 +74,39 @@ pub fn crown() -> Vec<u8> {
     bundle(&crown_lines())
 }
 
+/// "the prescriber of this crown also prescribed the implant scan", said in two ways. Objects 0
+/// crown, 1 implant scan, 2 Ana (role 0, a clinician), 3 Ben; label 0 from a work to who prescribed
+/// it, label 1 from a crown to the scan that belongs to it. Ana prescribed both works.
+pub fn implant_lines() -> Vec<Vec<u8>> {
+    let mut lines = vec![vec![1, 1, 4], vec![2, 2, 0, 1], vec![2, 3, 0, 0]];
+    lines.extend([[3, 0, 0, 2], [3, 0, 1, 2], [3, 1, 0, 1]].map(Vec::from));
+    lines.extend(implant_formulas().map(|formula| [&[4], &formula[..]].concat()));
+    lines.extend([1, 2].map(|privileges| weights(&[5], privileges)));
+    lines.extend([[7, 7, 0], [7, 11, 1]].map(Vec::from));
+    lines.extend([1, 2, 3].map(|all| weights(&[10, 1], all)));
+    lines
+}
+
+/// The first way is formula 7: some prescriber, kept in slot 0, prescribed the crown, whose scan
+/// has that prescriber too. The second is formula 11: the crown is kept in slot 1 before, and op 11
+/// leads back to it.
+pub fn implant_formulas() -> [[u8; 3]; 12] {
+    [
+        [10, 0, 0],
+        [7, 0, 0],
+        [7, 1, 1],
+        [2, 0, 0],
+        [5, 3, 2],
+        [8, 0, 4],
+        [9, 0, 5],
+        [7, 0, 6],
+        [11, 1, 2],
+        [9, 0, 8],
+        [7, 0, 9],
+        [9, 1, 10],
+    ]
+}
+
 /// How many principals a bundle that loads has: its lines of kind 07.
 pub fn principal_count(text: &[u8]) -> usize {
     let kinds = text.split(|&byte| byte == b'\n').map(|line| line.get(2..4));

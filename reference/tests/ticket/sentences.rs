@@ -47,33 +47,40 @@ impl Sentences<'_> {
         of.map(|line| &line[1..]).collect()
     }
 
-    /// "A principal is enabled when its formula is true at o."
+    /// "A principal is enabled when its formula is true at o"; "All slots are unset at the start of
+    /// an evaluation."
     fn is_enabled(&self, p: u8) -> bool {
         let formula = self.of_kind(7)[usize::from(p)][0];
-        self.is_true(formula, self.o)
+        self.is_true(formula, self.o, &[])
     }
 
-    /// "Each is evaluated at a vertex "here", for an object o and a requestor s."
-    fn is_true(&self, formula: u8, here: u8) -> bool {
+    /// "Each is evaluated at a vertex "here", for an object o and a requestor s." What ops 9 keep
+    /// is a list of slots with their vertices, the innermost last.
+    fn is_true(&self, formula: u8, here: u8, kept: &[(u8, u8)]) -> bool {
         let body = self.of_kind(4)[usize::from(formula)];
         let (a, b) = (body[1], body[2]);
         let edges = self.of_kind(3);
+        let holds = |formula: u8, here: u8| self.is_true(formula, here, kept);
+        let inner = kept.iter().rfind(|(slot, _)| *slot == a);
         match body[0] {
             0 => true,
             1 => here == self.s,
             2 => here == self.o,
             3 => self.holds_role(a),
-            4 => !self.is_true(a, here),
-            5 => self.is_true(a, here) && self.is_true(b, here),
-            6 => self.is_true(a, here) || self.is_true(b, here),
+            4 => !holds(a, here),
+            5 => holds(a, here) && holds(b, here),
+            6 => holds(a, here) || holds(b, here),
             7 => {
                 let mut from = edges.iter().filter(|edge| edge[..2] == [a, here]);
-                from.any(|edge| self.is_true(b, edge[2]))
+                from.any(|edge| holds(b, edge[2]))
             }
-            _ => {
+            8 => {
                 let mut to = edges.iter().filter(|edge| edge[0] == a && edge[2] == here);
-                to.any(|edge| self.is_true(b, edge[1]))
+                to.any(|edge| holds(b, edge[1]))
             }
+            9 => self.is_true(b, here, &[kept, &[(a, here)]].concat()),
+            10 => inner.is_some_and(|&(_, vertex)| vertex == here),
+            _ => inner.is_some_and(|&(_, vertex)| holds(b, vertex)),
         }
     }
 

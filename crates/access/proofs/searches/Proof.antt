@@ -5,7 +5,8 @@ use mathlib.Core.Bool.{not}
 use native.Mathlib.Omega.{arith}
 use borrow.Author.Needs.{needs}
 use Rattle.policy.specs.declared.Record.{Record}
-use Rattle.formula.specs.Evaluation.{formulasIn, edgesIn, contextOf}
+use Rattle.vertices.specs.Steps.{edgesIn}
+use Rattle.formula.specs.Evaluation.{formulasIn, contextOf}
 use Rattle.justification.specs.Masked.{Masked}
 use Rattle.justification.specs.MarkedSets.{Marks}
 use Rattle.justification.specs.MaskLaws.{least-set, least-none}

@@ -4,8 +4,8 @@ use mathlib.Core.Bool.{Bool, _&&_}
 use native.Mathlib.Omega.{arith}
 use borrow.Author.Needs.{needs}
 use Rattle.common.specs.BoolLaws.{and-false, and-true}
+use Rattle.vertices.specs.Steps.{isIn}
 use Rattle.formula.specs.Formula.{meaning}
-use Rattle.formula.specs.Evaluation.{isIn}
 use Rattle.formula.proofs.plain.Statement.{statement}
 use Rattle.formula.proofs.plain.Tie as tie
 
@@ -24,15 +24,16 @@ none-requires c κs = search needs
 returns : tie.Need-returns
 unfolding meaning
 returns c =
-    λ edges b part. record { members = λ v. rw (c .before .match .keys1) (sym (and-true (isIn (c .before .before .args .asked .now) v))) }
+    let asked = c .before .before .args .asked .now in
+    λ labels from to b part. record { members = λ v. rw (c .before .match .keys1) (sym (and-true (isIn asked v))) }
 
 returns-2 : tie.Need-returns-2
 unfolding meaning
-returns-2 c = λ edges b part. record { members = λ v. rw (c .before .match .keys2) (c .only .ensures .members v) }
+returns-2 c = λ labels from to b part. record { members = λ v. rw (c .before .match .keys2) (c .only .ensures .members v) }
 
 returns-3 : tie.Need-returns-3
 unfolding meaning
-returns-3 c = λ edges b part. record { members = λ v. rw (c .before .match .keys3) (c .only2 .ensures .members v) }
+returns-3 c = λ labels from to b part. record { members = λ v. rw (c .before .match .keys3) (c .only2 .ensures .members v) }
 
 -- past ops 0 to 2: op 3, and whether the requestor holds the role
 module _ (c : tie.After-holds-role) where
@@ -47,7 +48,7 @@ unfolding meaning
 returns-4 c =
     let held = c .before .before in
     let asked = start held .args .asked .now in
-    λ edges b part. record {
+    λ labels from to b part. record {
       members = λ v. rw (role-op held)
           (sym (ap (λ (x : Bool). isIn asked v && x) (sym (held .holds-role .ensures) ∙ c .before .if1 .taken) ∙ and-true (isIn asked v)));
     }
@@ -57,7 +58,7 @@ unfolding meaning
 returns-5 c =
     let held = c .before .before in
     let asked = start held .args .asked .now in
-    λ edges b part. record {
+    λ labels from to b part. record {
       members = λ v. rw (role-op held) (c .none .ensures .1 v
           ∙ sym (ap (λ (x : Bool). isIn asked v && x) (sym (held .holds-role .ensures) ∙ c .before .if1 .left) ∙ and-false (isIn asked v)));
     }

@@ -6,7 +6,7 @@ use native.Mathlib.Omega.{arith}
 use lib.ListN.{length}
 use lib.Seq.{getD-set-same}
 use borrow.Author.Needs.{needs}
-use Rattle.formula.proofs.VertexSets.{at-asked}
+use Rattle.vertices.proofs.VertexSets.{at-asked}
 use Rattle.formula.proofs.true_at_object.Statement.{statement}
 use Rattle.formula.proofs.true_at_object.Tie as tie
 

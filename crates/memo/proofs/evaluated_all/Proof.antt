@@ -7,7 +7,8 @@ use borrow.Author.Needs.{needs}
 use Rattle.common.specs.Limits.{mostFormulas, mostPrincipals}
 use Rattle.common.specs.Lists.{at, below}
 use Rattle.policy.specs.declared.Record.{Record}
-use Rattle.formula.specs.Evaluation.{formulasIn, edgesIn, contextOf}
+use Rattle.vertices.specs.Steps.{edgesIn}
+use Rattle.formula.specs.Evaluation.{formulasIn, contextOf}
 use Rattle.memo.specs.Walk.{evaluatedAll}
 use Rattle.memo.specs.Lent.{Principals, truthIn}
 use Rattle.memo.proofs.Memos.{evaluated-none, evaluated-more, evaluated-end}

@@ -8,7 +8,8 @@ use borrow.Author.Needs.{needs}
 use Rattle.common.specs.Limits.{mostFormulas, mostPrincipals}
 use Rattle.common.specs.Lists.{at}
 use Rattle.policy.specs.declared.Record.{Record}
-use Rattle.formula.specs.Evaluation.{formulasIn, edgesIn, contextOf}
+use Rattle.vertices.specs.Steps.{edgesIn}
+use Rattle.formula.specs.Evaluation.{formulasIn, contextOf}
 use Rattle.memo.specs.Walk.{formulaOf}
 use Rattle.memo.specs.Lent.{Principals, truthIn}
 use Rattle.memo.proofs.Weighing.{Left, left-all, left-skip, left-on, left-ends, left-none}

@@ -1,0 +1,2 @@
+pub mod VertexSets
+pub mod OneVertex

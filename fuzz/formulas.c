@@ -1,0 +1,70 @@
+#include "formulas.h"
+
+/* What is in a formula: the bits of its uses, the slots asked for outside of an op 9 on them, and those kept to be asked for. */
+struct content {
+    unsigned uses, asked, kept;
+};
+
+/* Whether a is a formula's number. */
+bool a_is_part(unsigned op)
+{
+    return op >= NOT && op < FORWARD;
+}
+
+/* Whether b is a formula's number. */
+bool b_is_part(unsigned op)
+{
+    return (op > NOT && op <= KEEP) || op == AT;
+}
+
+/* The height of a formula, from those of the formulas before it. */
+unsigned height_over(const uint8_t *body, const unsigned *heights)
+{
+    unsigned a = a_is_part(body[0]) ? 1 + heights[body[1]] : 0, b = b_is_part(body[0]) ? 1 + heights[body[2]] : 0;
+
+    return a > b ? a : b;
+}
+
+/* What an op 9, 10 or 11 on a slot has in it, from what its part has. */
+static struct content on_slot(unsigned op, unsigned slot, struct content part)
+{
+    unsigned bit = 1u << slot;
+
+    part.uses |= 1u << (op - KEEP + USES_KEEP);
+    if (op != KEEP) {
+        part.asked |= bit;
+        return part;
+    }
+    if (part.kept & bit)
+        part.uses |= 1u << HIDES;
+    if (part.asked & bit)
+        part.uses |= 1u << ASKS_KEPT, part.kept |= bit;
+    part.asked &= ~bit;
+    return part;
+}
+
+/* What a formula has in it, from what the formulas before it have. */
+static struct content content_of(const uint8_t *body, const struct content *before)
+{
+    struct content none = {0, 0, 0}, a = a_is_part(body[0]) ? before[body[1]] : none, b = b_is_part(body[0]) ? before[body[2]] : none;
+    struct content both = {a.uses | b.uses, a.asked | b.asked, a.kept | b.kept};
+
+    return body[0] >= KEEP ? on_slot(body[0], body[1], both) : both;
+}
+
+/* What the principals of an accepted bundle have in their formulas. */
+unsigned uses_of(const struct bundle *bundle)
+{
+    struct content contents[256];
+    unsigned uses = 0;
+    size_t i, formulas = 0;
+
+    for (i = 0; i < bundle->count; i++) {
+        const uint8_t *octets = bundle->lines[i].octets;
+        if (octets[1] == FORMULA)
+            contents[formulas] = content_of(octets + 2, contents), formulas++;
+        if (octets[1] == PRINCIPAL)
+            uses |= contents[octets[2]].uses | (contents[octets[2]].asked ? 1u << ASKS_UNSET : 0);
+    }
+    return uses;
+}

@@ -1,0 +1,3 @@
+//! The reference by the names of the engine's functions, where there is no engine.
+
+pub use reference::{answer, load, replay, rewrite, write, Policy as Record};
