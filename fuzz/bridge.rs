@@ -61,6 +61,17 @@ pub unsafe extern "C" fn reference_write(
     reference::write(&*record, from_raw_parts_mut(out, out_length))
 }
 
+/// The index of a record: by label the first places, then the numbers of edges; then the places.
+///
+/// # Safety
+/// The record is one of `reference_record`; the other pointer is to so many numbers.
+#[no_mangle]
+pub unsafe extern "C" fn reference_index(record: *const Policy, numbers: *mut [u16; 544]) {
+    let index = (*record).index();
+    let all = [&index.firsts[..], &index.counts, &index.places].concat();
+    (*numbers).copy_from_slice(&all);
+}
+
 /// `access_rewrite`, by the reference.
 ///
 /// # Safety

@@ -5,6 +5,7 @@
 
 #include "../include/case_access.h"
 #include "check.h"
+#include "index.h"
 #include "random.h"
 #include "tally.h"
 
@@ -13,6 +14,7 @@ void reference_zero(void *record);
 uint64_t reference_load(void *record, const uint8_t *bundle, size_t bundle_length);
 uint64_t reference_answer(void *record, const uint8_t *calls, size_t calls_length, uint8_t *answers, size_t answers_length);
 uint64_t reference_write(const void *record, uint8_t *out, size_t out_length);
+void reference_index(const void *record, struct edge_index *index);
 
 /* A record at both: the engine's lies against a forbidden page. */
 struct lent {
@@ -31,7 +33,7 @@ struct walk {
 };
 
 /* Where a record's memo is: a pair, then octets that are bools; nothing of the record is behind them. */
-enum { MEMO = 4968, FIRST_BOOL = MEMO + 2, BOOLS = 128, IN_USE = FIRST_BOOL + BOOLS };
+enum { MEMO = BEHIND_INDEX, FIRST_BOOL = MEMO + 2, BOOLS = 128, IN_USE = FIRST_BOOL + BOOLS };
 
 static const char smallest[] = "02010101FB\n06FF000100000100F9\n";
 
@@ -74,6 +76,15 @@ static void must_stay_around(const struct lent *lent)
     must(area_stays(&lent->area, lent->area.length), "bytes around the record changed");
 }
 
+/* Stops unless the index in the engine's record is the one that the reference builds anew from its edges. */
+static void must_be_indexed(const struct lent *lent)
+{
+    struct edge_index expected, found = index_of(lent->engine);
+
+    reference_index(lent->reference, &expected);
+    must(memcmp(&expected, &found, sizeof found) == 0, "index: not the one that building anew gives");
+}
+
 /* Loads a bundle into a record by both. */
 static uint64_t load(struct lent *lent, struct slice bundle)
 {
@@ -84,6 +95,7 @@ static uint64_t load(struct lent *lent, struct slice bundle)
     value = access_load(lent->engine, read.start, read.length);
     must_agree(value, reference_load(lent->reference, read.start, read.length));
     must_stay_around(lent);
+    must_be_indexed(lent);
     must(same(read, bundle) && area_stays(&bundle_area, read.length), "load: the bundle or bytes around it changed");
     return value;
 }
@@ -114,6 +126,7 @@ static size_t answer(struct lent *lent, struct slice list, size_t room)
     value = access_answer(lent->engine, list.start, list.length, engine_area.lent, room);
     must_agree(value, reference_answer(lent->reference, list.start, list.length, reference_area.lent, room));
     must_stay_around(lent);
+    must_be_indexed(lent);
     must(value == count, "answer: another number of answers");
     must(area_stays(&engine_area, ANSWER * count), "answer: bytes past the answers changed");
     if (leave_record(list, count))
@@ -327,6 +340,50 @@ static void check_altered_record(void)
     must(memcmp(engine_area.lent, theirs, room) == 0, "answer: not that of the bundle that the record writes");
 }
 
+/* One call of each kind is refused, and so is writing; the record and the buffer stay. */
+static void check_each_refused(access_record *record)
+{
+    access_record before = *record;
+    uint8_t call[CALL] = {0};
+
+    lend(ANSWER);
+    for (call[0] = ACCESS_CALL_ADD; call[0] <= ACCESS_CALL_TICKET; call[0]++) {
+        access_answer(record, call, CALL, engine_area.lent, ANSWER);
+        must(engine_area.lent[0] == 19, "answer: not 19 with an index that disagrees");
+    }
+    lend(text.length);
+    must(access_write(record, engine_area.lent, text.length) == (uint64_t)19 << 32, "write: not 19 with an index that disagrees");
+    must(area_stays(&engine_area, 0), "write: 19 changed the buffer");
+    must(memcmp(&before, record, IN_USE) == 0, "19 with an index that disagrees changed the record");
+}
+
+/* An index that disagrees with the edges: every call is refused and the record stays; put right, it answers. By the engine alone. */
+static void check_altered_index(void)
+{
+    static uint8_t theirs[ANSWER * MOST_CALLS];
+    static access_record altered, before, other;
+    struct edge_index right = index_of(first.engine);
+    unsigned way = below(WAYS);
+    struct edge_index wrong = index_altered(right, way);
+    size_t room = ANSWER * (calls.length / CALL);
+
+    if (memcmp(&right, &wrong, sizeof wrong) == 0)
+        return;
+    altered = other = *first.engine;
+    index_put(&altered, wrong);
+    before = altered;
+    check_each_refused(&altered);
+    lend(room);
+    access_answer(&altered, calls.start, calls.length, engine_area.lent, room);
+    check_unloadable(engine_area.lent, calls.length / CALL, memcmp(&before, &altered, IN_USE) == 0);
+    index_put(&altered, right);
+    access_answer(&altered, calls.start, calls.length, engine_area.lent, room);
+    access_answer(&other, calls.start, calls.length, theirs, room);
+    must(memcmp(engine_area.lent, theirs, room) == 0, "answer: otherwise once the index was put right");
+    must(memcmp(&altered, &other, IN_USE) == 0, "answer: another record once the index was put right");
+    tally_lent_misindexed(way);
+}
+
 /* The calls that evaluate afresh; the length of them. */
 static size_t afresh(uint8_t *list)
 {
@@ -379,6 +436,7 @@ void check_lent(const uint8_t *answers)
     check_parts(&first, calls, answers, text);
     if (one_in(2))
         check_altered_record();
+    check_altered_index();
     check_afresh();
     if (calls.length >= CALL && one_in(3))
         check_turns(answers);

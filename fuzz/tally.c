@@ -3,11 +3,12 @@
 #include <stdio.h>
 
 #include "formulas.h"
+#include "index.h"
 #include "sets.h"
 
 static size_t bundles[19], answers[23], kinds[8], granted, yes, tickets, dropped;
 static size_t parts, writes[20], again, of_edited, refused, altered[20];
-static size_t using[USES], evaluated[USES];
+static size_t using[USES], evaluated[USES], misindexed[WAYS];
 
 /* What the formulas of the bundle at hand have in them. */
 static unsigned uses;
@@ -92,12 +93,23 @@ void tally_lent_altered(uint64_t number)
     altered[number]++;
 }
 
+/* Counts a record with another index by the way it was altered. */
+void tally_lent_misindexed(unsigned way)
+{
+    misindexed[way]++;
+}
+
 /* Prints the counts of lent records. */
 static void tally_lent_print(void)
 {
+    unsigned i;
+
     fprintf(stderr, "lent records: parts of lists:%zu; writes by number: 0:%zu 18:%zu 19:%zu; ", parts, writes[0], writes[18], writes[19]);
     fprintf(stderr, "written and loaded again:%zu, after an edit:%zu; refused over rules:%zu; ", again, of_edited, refused);
-    fprintf(stderr, "with octets altered, by number: 0:%zu 19:%zu\n", altered[0], altered[19]);
+    fprintf(stderr, "with octets altered, by number: 0:%zu 19:%zu; with another index (19):", altered[0], altered[19]);
+    for (i = 0; i < WAYS; i++)
+        fprintf(stderr, "%s %s:%zu", i ? "," : "", index_ways[i], misindexed[i]);
+    fprintf(stderr, "\n");
 }
 
 /* Prints the counts of what is in formulas. */

@@ -14,6 +14,7 @@ void tally_lent_write(uint64_t number);
 void tally_lent_again(bool edited);
 void tally_lent_refused(void);
 void tally_lent_altered(uint64_t number);
+void tally_lent_misindexed(unsigned way);
 void tally_print(void);
 
 #endif

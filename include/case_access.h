@@ -197,10 +197,13 @@ uint64_t access_replay(const uint8_t *bundle, size_t bundle_length, const uint8_
  *     be used at the same time.
  *
  * What the caller may rely on: a record is plain data without pointers. It may be copied, by assignment or memcpy, and a copy is a
- * snapshot; it may be dropped. Two records with the same rules may differ in octets: compare what they write. */
+ * snapshot; it may be dropped. Two records with the same rules may differ in octets: compare what they write.
+ *
+ * Beside the rules a record holds an index of its edges (request 2026-04), which loading builds and each edit keeps, and the memo of
+ * the last pair that was asked about. A record whose index disagrees with its edges is refused with 19 by every call but access_load. */
 
 /* What a record takes; it is aligned to 8 octets. */
-#define ACCESS_RECORD_OCTETS 5104
+#define ACCESS_RECORD_OCTETS 6192
 
 typedef struct access_record {
     uint64_t opaque[ACCESS_RECORD_OCTETS / 8];
@@ -215,8 +218,8 @@ uint64_t access_load(access_record *record, const uint8_t *bundle, size_t bundle
 /* Answers each call in turn, as access_replay does, and leaves the record that the last of them left. The count of answers. */
 uint64_t access_answer(access_record *record, const uint8_t *calls, size_t calls_length, uint8_t *answers, size_t answers_length);
 
-/* Writes the record's rules into out, as a bundle: 0 and the length written, or 18 and the length needed where out is too short, or
- * 19 and 0 for a record that no bundle loads to; out then stays. The record stays. */
+/* Writes the record's rules into out, as a bundle, without index and memo: 0 and the length written, or 18 and the length needed where
+ * out is too short, or 19 and 0 for a record that no bundle loads to; out then stays. The record stays. */
 uint64_t access_write(const access_record *record, uint8_t *out, size_t out_length);
 
 /* ---- one call on a record. A number above 255 is taken as 255, which is no method, no object and no label. */

@@ -4,10 +4,13 @@ use std::env;
 use std::path::{Path, PathBuf};
 
 /// Without the file the library still builds; the differential test then says what is missing.
+/// Another library is taken by `ENGINE`, as seen from this package.
 fn main() {
     let package = PathBuf::from(env::var("CARGO_MANIFEST_DIR").expect("cargo names the package"));
-    let engine = package.join("../target/staticlib/libcapi.a");
+    let engine = env::var("ENGINE").unwrap_or("../target/staticlib/libcapi.a".to_string());
+    let engine = package.join(engine);
     println!("cargo:rerun-if-changed=build.rs");
+    println!("cargo:rerun-if-env-changed=ENGINE");
     println!("cargo:rerun-if-changed={}", engine.display());
     println!("cargo:rustc-check-cfg=cfg(engine)");
     if engine.is_file() {

@@ -7,8 +7,11 @@ use std::time::{Duration, Instant};
 mod kept;
 
 mod engine {
+    // ACCESS_RECORD_OCTETS of include/case_access.h.
+    const OCTETS: usize = 6192;
+
     #[repr(C, align(8))]
-    struct Record([u8; 5104]);
+    struct Record([u8; OCTETS]);
 
     extern "C" {
         fn access_load(record: *mut Record, bundle: *const u8, length: usize) -> u64;
@@ -26,7 +29,7 @@ mod engine {
 
     impl Loaded {
         pub fn of(bundle: &[u8]) -> Loaded {
-            let mut record = Box::new(Record([0; 5104]));
+            let mut record = Box::new(Record([0; OCTETS]));
             if unsafe { access_load(&mut *record, bundle.as_ptr(), bundle.len()) } != 0 {
                 super::stop("a bundle did not load");
             }

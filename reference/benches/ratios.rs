@@ -3,8 +3,8 @@
 //! Both are called through the same functions on bytes, in turn within each round, so that both see
 //! the same machine. Times are processor time in microseconds: the median of the rounds, with
 //! the lowest and the highest one. A ratio below 1 means that the engine is faster. Nothing fails
-//! because of time; it fails where the answers differ, since such times would mean nothing. A word
-//! after `cargo bench --` measures only the sections that have it in their title.
+//! because of time; it fails where the answers differ, since such times would mean nothing. Words
+//! after `cargo bench --` measure only the sections that have one of them in their title.
 
 #[cfg(not(engine))]
 compile_error!("../target/staticlib/libcapi.a is missing: `rt staticlib capi` makes it");
@@ -17,6 +17,8 @@ mod clock;
 mod cover;
 #[path = "ratios/edits.rs"]
 mod edits;
+#[path = "ratios/labels.rs"]
+mod labels;
 #[path = "ratios/lent.rs"]
 mod lent;
 #[path = "ratios/longest.rs"]
@@ -44,6 +46,7 @@ mod tower;
 #[path = "ratios/workload.rs"]
 mod workload;
 
+#[allow(dead_code)]
 #[path = "../tests/differential/engine.rs"]
 mod engine;
 #[path = "../tests/differential/formulas.rs"]
@@ -80,6 +83,8 @@ fn main() {
     if is_wanted(tower::TITLE) {
         tower::section(&mut longest);
     }
+    section(labels::EVEN, labels::even, &mut longest);
+    section(labels::STEP, labels::steps, &mut longest);
     let covers = is_wanted(cover::TITLE).then(|| cover::workloads(&mut longest));
     section(cover::TITLE, || covers.unwrap_or_default(), &mut longest);
     section(tickets::TITLE, tickets::workloads, &mut longest);
@@ -94,10 +99,13 @@ fn main() {
     println!("The run took {:.0} s.", start.elapsed().as_secs_f64());
 }
 
-/// Whether the command's word, if there is one, is in the title of a section.
+/// Whether one of the command's words, if there are any, is in the title of a section.
 fn is_wanted(title: &str) -> bool {
-    let word = std::env::args().skip(1).find(|word| !word.starts_with('-'));
-    word.is_none_or(|word| title.contains(&word))
+    let words = std::env::args()
+        .skip(1)
+        .filter(|word| !word.starts_with('-'));
+    let mut words = words.peekable();
+    words.peek().is_none() || words.any(|word| title.contains(&word))
 }
 
 /// Measures and prints workloads under a title, and gives their rows.

@@ -47,6 +47,8 @@ mod report;
 mod run;
 #[path = "differential/sealed.rs"]
 mod sealed;
+#[path = "differential/seeds.rs"]
+mod seeds;
 #[path = "differential/shapes.rs"]
 mod shapes;
 #[path = "differential/sizes.rs"]

@@ -11,7 +11,9 @@ _Static_assert(sizeof(access_record) == ACCESS_RECORD_OCTETS, "access_record has
 _Static_assert(_Alignof(access_record) == _Alignof(struct Record), "access_record is aligned as the engine's record");
 
 #define EXPECT(what) expect(what, #what)
-#define COLUMN(column, ...) EXPECT(memcmp(r.column, (const uint8_t[]){__VA_ARGS__}, sizeof((const uint8_t[]){__VA_ARGS__})) == 0)
+#define BEGINS(type, field, ...) EXPECT(memcmp(r.field, (const type[]){__VA_ARGS__}, sizeof((const type[]){__VA_ARGS__})) == 0)
+#define COLUMN(column, ...) BEGINS(uint8_t, column, __VA_ARGS__)
+#define INDEX(row, ...) BEGINS(uint16_t, index.row, __VA_ARGS__)
 
 static int passed, failed;
 
@@ -56,6 +58,9 @@ static void crown(const access_record *record)
     COLUMN(edge_labels, 0, 1, 1, 0);
     COLUMN(edge_sources, 0, 0, 0, 0);
     COLUMN(edge_targets, 1, 1, 2, 0);
+    INDEX(firsts, 0, 1, 3, 3, 3, 3, 3, 3, 3, 3, 3, 3, 3, 3, 3, 3);
+    INDEX(counts, 1, 2, 0, 0, 0, 0, 0, 0, 0, 0, 0, 0, 0, 0, 0, 0);
+    INDEX(places, 0, 1, 2, 0);
     EXPECT(r.formula_count == 4);
     COLUMN(formula_ops, 1, 7, 7, 3, 0);
     COLUMN(formula_lefts, 0, 0, 1, 0, 0);
@@ -89,6 +94,23 @@ static void kept(access_record *record)
     EXPECT(access_remove(record, 1, 0, 1) == ACCESS_ACCEPTED);
     EXPECT(fields(record).edge_count == 2 && fields(record).edge_targets[1] == 2 && fields(record).edge_targets[2] == 0);
     EXPECT(fields(record).memo.requestor == 0 && known(record) == 0);
+}
+
+/* What edits leave in the index: places are by label, then to, then from, and so in another order than the edges. */
+static void indexed(access_record record)
+{
+    struct Record r;
+
+    EXPECT(access_add(&record, 1, 2, 0) == ACCESS_ACCEPTED && access_add(&record, 15, 2, 2) == ACCESS_ACCEPTED);
+    r = fields(&record);
+    INDEX(firsts, 0, 1, 4, 4, 4, 4, 4, 4, 4, 4, 4, 4, 4, 4, 4, 4);
+    INDEX(counts, 1, 3, 0, 0, 0, 0, 0, 0, 0, 0, 0, 0, 0, 0, 0, 1);
+    INDEX(places, 0, 3, 1, 2, 4, 0);
+    EXPECT(access_remove(&record, 0, 0, 1) == ACCESS_ACCEPTED);
+    r = fields(&record);
+    INDEX(firsts, 0, 0, 3, 3, 3, 3, 3, 3, 3, 3, 3, 3, 3, 3, 3, 3);
+    INDEX(counts, 0, 3, 0, 0, 0, 0, 0, 0, 0, 0, 0, 0, 0, 0, 0, 1);
+    INDEX(places, 2, 0, 1, 3, 0, 0);
 }
 
 /* Whether two records have the same octets in every field, the memo's too; nothing lies behind the memo. */
@@ -125,6 +147,33 @@ static void tickets(access_record record)
     EXPECT(access_answer(&record, list, sizeof list, answers, sizeof answers) == 2 && same(&record, &before));
     EXPECT(memcmp(answers, (const uint8_t[]){0, 0, 0, 0, 0, ACCESS_NOT_ENABLED, 0, 0, 0, 0}, sizeof answers) == 0);
     EXPECT(access_answer(&record, lazy, sizeof lazy, answers, 5) == 1 && memcmp(answers, granted, 5) == 0);
+}
+
+/* A number of a record's index, 0 to 543: firsts, counts, places. */
+static void put(access_record *record, size_t number, uint16_t value)
+{
+    memcpy((uint8_t *)record + offsetof(struct Record, index) + 2 * number, &value, 2);
+}
+
+/* An index that disagrees with the edges: every call is refused and the record stays; with the old number it answers again. */
+static void misindexed(access_record record, size_t number, uint16_t value, uint16_t old)
+{
+    access_record before;
+    uint8_t out[512];
+
+    put(&record, number, value);
+    before = record;
+    EXPECT(access_add(&record, 0, 0, 0) == ACCESS_NOT_LOADABLE);
+    EXPECT(access_remove(&record, 1, 0, 1) == ACCESS_NOT_LOADABLE);
+    EXPECT(access_eager(&record, 0, 0, 1).number == ACCESS_NOT_LOADABLE);
+    EXPECT(access_lazy(&record, 0, 0, 1).number == ACCESS_NOT_LOADABLE);
+    EXPECT(access_liberal(&record, 0, 0, 1).number == ACCESS_NOT_LOADABLE);
+    EXPECT(access_strict(&record, 0, 0, 1).number == ACCESS_NOT_LOADABLE);
+    EXPECT(access_ticket(&record, 0, 0, 1, 6) == ACCESS_NOT_LOADABLE);
+    EXPECT(access_write(&record, out, sizeof out) == (uint64_t)ACCESS_NOT_LOADABLE << 32);
+    EXPECT(same(&record, &before));
+    put(&record, number, old);
+    EXPECT(access_lazy(&record, 0, 0, 1).set == 6);
 }
 
 /* Loading into a record that has rules. */
@@ -177,7 +226,14 @@ int main(void)
     loaded_over(&own.record, bundle, length);
     EXPECT(memcmp(own.after, untouched, sizeof untouched) == 0);
     crown(&snapshot);
+    indexed(snapshot);
     tickets(snapshot);
+    misindexed(snapshot, 2, 2, 3);
+    misindexed(snapshot, 16 + 15, 1, 0);
+    misindexed(snapshot, 32 + 1, 2, 1);
+    misindexed(snapshot, 32 + 2, 3, 2);
+    misindexed(snapshot, 32 + 2, 512, 2);
+    misindexed(snapshot, 32 + 511, 1, 0);
     refused(&snapshot);
     if (failed == 0)
         printf("record: %d checks passed\n", passed);

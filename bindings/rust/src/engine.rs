@@ -5,7 +5,7 @@ use crate::record::Record;
 use crate::{Answer, Call, Decision, Edge, Question, Refused, Ticket};
 use std::fmt;
 
-/// The rules of a bundle, the edges as they were edited since, and the memo of the last question.
+/// The rules of a bundle, the edges as they were edited since, their index, and the memo of the last question.
 ///
 /// A clone is a snapshot: what happens to one does not happen to the other. To replace the rules, load the
 /// new bundle and keep the old engine until it is accepted: `engine = Engine::load(&bundle)?`.
@@ -79,7 +79,7 @@ impl Engine {
         answered.map(|(call, octets)| call.answer(octets)).collect()
     }
 
-    /// The rules as a bundle, with the edges as they are now. The memo is not written.
+    /// The rules as a bundle, with the edges as they are now. Index and memo are not written.
     pub fn write(&self) -> Vec<u8> {
         let needed = self.record.write(&mut []);
         let mut bundle = vec![0; needed.value];

@@ -3,7 +3,7 @@
 use std::mem::MaybeUninit;
 
 /// `ACCESS_RECORD_OCTETS` of `include/case_access.h`.
-pub(crate) const RECORD_OCTETS: usize = 5104;
+pub(crate) const RECORD_OCTETS: usize = 6192;
 
 /// A result's number, and its value: a line or a length.
 pub(crate) struct Packed {

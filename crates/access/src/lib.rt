@@ -2,8 +2,9 @@
 
 ghost use mathlib.Core.Path.{_≡_};
 ghost use Prim.Native.Nat.{ℕ, _+_, _≤_};
-ghost use Rattle.common.specs.Limits.{mostEdges, mostPrincipals};
+ghost use Rattle.common.specs.Limits.{mostPrincipals};
 ghost use Rattle.common.specs.Sets.{member};
+ghost use Rattle.edge_index.specs.Index.{Indexed};
 ghost use Rattle.policy.specs.declared.Record as records;
 ghost use Rattle.policy.specs.Loadable as validity;
 ghost use Rattle.policy.specs.Typed.{Typed};
@@ -15,6 +16,7 @@ ghost use Rattle.formula.specs.Evaluation.{formulasIn, contextOf};
 ghost use Rattle.memo.specs.Lent.{FormulasFit, Principals, truthIn};
 ghost use Rattle.memo.specs.Walk as walks;
 ghost use Rattle.access.specs.Access as access;
+use common::LABEL_COUNT;
 use common::MOST_EDGES;
 use common::MOST_FORMULAS;
 use common::MOST_PRINCIPALS;
@@ -148,13 +150,35 @@ pub fn decide_eagerly(rules: Record, loads: bool, question: Question) -> Decisio
     let before = memo::memo_for(rules.memo, question);
     let s = question.requestor;
     let roles = formula::roles_of(rules.user_count, &rules.user_objects, &rules.user_roles, s);
-    let masks = justification::masks_of(rules, index(question.method), 0);
+    let method = index(question.method);
+    let masks = justification::masks_of(
+        rules.demarcation_count,
+        &rules.demarcation_privileges,
+        rules.hierarchy_count,
+        &rules.inferiors,
+        &rules.superiors,
+        rules.principal_count,
+        &rules.principal_demarcations,
+        rules.exclusion_count,
+        &rules.exclusion_lows,
+        &rules.exclusion_highs,
+        rules.prerequisite_count,
+        &rules.prerequisites,
+        &rules.dependents,
+        &rules.method_forms,
+        &rules.method_privileges,
+        method,
+        0,
+    );
     let after = memo::evaluated_all(
         before,
         rules.edge_count,
         &rules.edge_labels,
         &rules.edge_sources,
         &rules.edge_targets,
+        &rules.index.firsts,
+        &rules.index.counts,
+        &rules.index.places,
         &rules.formula_ops,
         &rules.formula_lefts,
         &rules.formula_rights,
@@ -208,7 +232,26 @@ pub fn decide_lazily(rules: Record, loads: bool, question: Question) -> Decision
     let before = memo::memo_for(rules.memo, question);
     let s = question.requestor;
     let roles = formula::roles_of(rules.user_count, &rules.user_objects, &rules.user_roles, s);
-    let masks = justification::masks_of(rules, index(question.method), 0);
+    let method = index(question.method);
+    let masks = justification::masks_of(
+        rules.demarcation_count,
+        &rules.demarcation_privileges,
+        rules.hierarchy_count,
+        &rules.inferiors,
+        &rules.superiors,
+        rules.principal_count,
+        &rules.principal_demarcations,
+        rules.exclusion_count,
+        &rules.exclusion_lows,
+        &rules.exclusion_highs,
+        rules.prerequisite_count,
+        &rules.prerequisites,
+        &rules.dependents,
+        &rules.method_forms,
+        &rules.method_privileges,
+        method,
+        0,
+    );
     searches(
         masks,
         before,
@@ -216,6 +259,9 @@ pub fn decide_lazily(rules: Record, loads: bool, question: Question) -> Decision
         &rules.edge_labels,
         &rules.edge_sources,
         &rules.edge_targets,
+        &rules.index.firsts,
+        &rules.index.counts,
+        &rules.index.places,
         &rules.formula_ops,
         &rules.formula_lefts,
         &rules.formula_rights,
@@ -235,6 +281,9 @@ fn searches<'a>(
     labels: &'a [u8; MOST_EDGES],
     sources: &'a [u8; MOST_EDGES],
     targets: &'a [u8; MOST_EDGES],
+    firsts: &'a [u16; LABEL_COUNT],
+    counts: &'a [u16; LABEL_COUNT],
+    places: &'a [u16; MOST_EDGES],
     ops: &'a [u8; MOST_FORMULAS],
     lefts: &'a [u8; MOST_FORMULAS],
     rights: &'a [u8; MOST_FORMULAS],
@@ -244,7 +293,8 @@ fn searches<'a>(
     object: u8,
     requestor: u8,
 ) -> Decision
-    requires { ⌜ («edge_count» ≤ mostEdges) × FormulasFit count (now formulas) × (masks .count ≤ mostPrincipals) ⌝ }
+    requires { ⌜ Indexed «edge_count» (now labels) (now sources) (now targets) (now firsts) (now counts) (now places)
+        × FormulasFit count (now formulas) × (masks .count ≤ mostPrincipals) ⌝ }
     ensures { λ r. ⌜ ((rules : records.Record) (m : ℕ) → Principals count (now (formulas .entry)) rules → Masked rules m 0 masks
         → access.leaves rules r ≡ access.answered rules before (walks.searching (rules .«principal_count» + 1)
         (truthIn (contextOf roles object requestor
@@ -266,6 +316,9 @@ fn searches<'a>(
                     labels,
                     sources,
                     targets,
+                    firsts,
+                    counts,
+                    places,
                     ops,
                     lefts,
                     rights,

@@ -15,7 +15,7 @@ use Rattle.closure.specs.Closure.{circular}
 use Rattle.octets.specs.Line.{Framed, kindOctet}
 use Rattle.octets.specs.Damage.{OneAltered}
 use Rattle.octets.specs.DamageLaws.{never-well-framed}
-use Rattle.policy.specs.Table.{Kind, hierarchy, prerequisite, kindOf, count, room, rows, blank}
+use Rattle.policy.specs.Table.{Kind, hierarchy, prerequisite, kindOf, count, room, rows, blank, indexed}
 use Rattle.rows.specs.Checks.{causes}
 use Rattle.policy.specs.Rows.{limited, rising, key, minimumKey, inRange, rowCauses}
 use Rattle.reading.specs.declared.Loaded.{Loaded}
@@ -71,7 +71,7 @@ end-answer t = go (eqb (t .last) 0xFF) (circular (rows hierarchy (t .rules)) || 
     go : (x y : Bool)
         → LoadAnswer
         (cond (not x) (notLoaded wrongEnd (t .lines + 1))
-        (cond y (notLoaded refusals.circle (t .lines)) (record { number = 0; line = 0; rules = t .rules })))
+        (cond y (notLoaded refusals.circle (t .lines)) (record { number = 0; line = 0; rules = indexed (t .rules) })))
     go false y = refusal-answer wrongEnd _ (λ e. omega arith) (omega arith)
     go true true = refusal-answer refusals.circle _ (λ e. omega arith) (omega arith)
     go true false = record { number = omega arith; success = λ e. refl; refused = λ e. absurd (e refl) }

@@ -13,9 +13,9 @@ use Rattle.closure.specs.Closure.{circular}
 use Rattle.octets.specs.Line.{totals}
 use Rattle.policy.specs.declared.Record.{Record}
 use Rattle.policy.specs.declared.Memo.{Memo}
-use Rattle.policy.specs.Table.{hierarchy, prerequisite, end, kinds, rows, appended, withMemo}
+use Rattle.policy.specs.Table.{hierarchy, prerequisite, end, kinds, rows, appended, withMemo, withIndex, indexed}
 use Rattle.policy.specs.Rows.{inRange, rowCauses, rowRefusal}
-use Rattle.policy.specs.Loadable.{tableLoads, loadable}
+use Rattle.policy.specs.Loadable.{tableLoads, loadable, noCircles}
 use Rattle.reading.specs.Body.{numbers}
 use Rattle.bundle.specs.Writing.{lineOctets, withEnd}
 use Rattle.reading.specs.Loading.{Reading, endWrong, afterLine, notLoaded, afterLastLine}
@@ -66,12 +66,12 @@ no-circle : (r : Record) (m : Memo) → loadable r ≡ true
     → (circular (rows hierarchy (withMemo r m)) || circular (rows prerequisite (withMemo r m))) ≡ false
 unfolding loadable withMemo
 no-circle r m loads =
-    let p = and-cases (not (circular (rows hierarchy r))) _ (and-cases (every (tableLoads r) kinds) _ loads .1) in
+    let p = and-cases (not (circular (rows hierarchy r))) _ (and-cases (noCircles r) _ (and-cases (every (tableLoads r) kinds) _ loads .1) .0) in
     rw (not-true (circular (rows hierarchy r)) (p .0), not-true (circular (rows prerequisite r)) (p .1))
 
-pub at-end : (r : Record) (m : Memo) → loadable r ≡ true → (t : Reading) (os : List ℕ) → t .rules ≡ withMemo r m
+pub at-end : (r : Record) (m : Memo) → loadable r ≡ true → (t : Reading) (os : List ℕ) → indexed (t .rules) ≡ withMemo r m
     → afterLastLine (afterLine t end os) ≡ record { number = 0; line = 0; rules = withMemo r m }
-unfolding afterLastLine afterLine appended
+unfolding afterLastLine afterLine appended withIndex
 at-end r m loads t os e =
     ap (λ (p : Record). cond (circular (rows hierarchy p) || circular (rows prerequisite p)) (notLoaded refusals.circle (t .lines + 1))
     (record { number = 0; line = 0; rules = p })) e

@@ -3,7 +3,7 @@ use Prim.Native.Nat.{ℕ, _+_, _<_}
 use mathlib.Core.Path.{_≡_, refl, sym, _∙_, ap, subst}
 use mathlib.Core.Logic.{_≢_}
 use mathlib.Core.Bool.{false≢true}
-use mathlib.Core.List.{List, [], _∷_, _++_, append-assoc, append-nil}
+use mathlib.Core.List.{List, [], _∷_, _++_, map, append-assoc, append-nil}
 use native.Mathlib.Omega.{arith}
 use lib.ListN.{length, length-append}
 use borrow.Author.Tests.{ne-eqb}
@@ -11,8 +11,9 @@ use Rattle.common.specs.Lists.{at}
 use Rattle.octets.specs.LineLaws.{totals-append}
 use Rattle.octets.specs.Line.{Framed, kindOctet, bodyOf, totals, textOf}
 use Rattle.policy.specs.declared.Record.{Record}
-use Rattle.policy.specs.Table.{Kind, head, end, code, kindOf, kinds, appended}
+use Rattle.policy.specs.Table.{Kind, head, end, code, kindOf, kinds, appended, indexed}
 use Rattle.policy.specs.RoomLaws.{room-left}
+use Rattle.policy.specs.MemoLaws.{rows-indexed}
 use Rattle.reading.specs.declared.Loaded.{Loaded}
 use Rattle.reading.specs.Body.{numbers}
 use Rattle.reading.specs.Loading.{Reading, atTop, lineRefusal, afterLine, read, load}
@@ -108,13 +109,18 @@ module _ (t : Reading) (os : List ℕ) (done : List (List ℕ)) (fine : Fine os)
 
 -- ---- all lines
 
+-- the index isn't written
+lines-indexed : (r : Record) (ks : List Kind) → ruleLines ks (indexed r) ≡ ruleLines ks r
+lines-indexed r [] = refl
+lines-indexed r (k ∷ ks) = λ j. map (lineOctets k) (rows-indexed r k j) ++ lines-indexed r ks j
+
 -- the lines read, and those still to read, are the bundle's
 read-so-far : {ls : List Framed} → Lines ls → (t : Reading) (done : List (List ℕ)) → Sound t → ReadSoFar t done → read t ls .number ≡ 0
     → withEnd (ruleLines kinds (read t ls .rules)) ≡ done ++ octetLines ls
 unfolding read
 read-so-far none t done s h e =
     let (last, same) = end-taken t e in
-    ap (λ (r : Record). withEnd (ruleLines kinds r)) same ∙ h .ended last ∙ sym (append-nil done)
+    ap (λ (r : Record). withEnd (ruleLines kinds r)) same ∙ ap withEnd (lines-indexed (t .rules) kinds) ∙ h .ended last ∙ sym (append-nil done)
 read-so-far (more (refused-line l u) p) t done s h e = absurd (omega arith)
 read-so-far (more {ls = ls} (octets-line {os} f) p) t done s h e =
     let k = kindOf (kindOctet os) in

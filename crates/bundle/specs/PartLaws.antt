@@ -1,6 +1,6 @@
 -- The record after some lines of a bundle: the kinds before a kind are whole, those after it have no lines yet.
 use Prim.Native.Nat.{ℕ, suc, _+_, _≤_, _<_}
-use mathlib.Core.Path.{_≡_, refl, _∙_, ap, subst}
+use mathlib.Core.Path.{_≡_, refl, sym, _∙_, ap, subst}
 use mathlib.Core.Bool.{true, false}
 use mathlib.Core.List.{List, [], map}
 use native.Mathlib.Omega.{arith}
@@ -9,15 +9,16 @@ use native.Mathlib.Nat.{zero-add}
 use native.Mathlib.Decide.{decLt}
 use lib.ListN.{replicate, getD}
 use borrow.Author.Tests.{ne-eqb}
-use Rattle.common.specs.Lists.{at}
+use Rattle.common.specs.Lists.{at, table}
+use Rattle.edge_index.specs.declared.EdgeIndex.{EdgeIndex}
 use Rattle.policy.specs.declared.Record.{Record}
 use Rattle.policy.specs.declared.Memo.{Memo}
 use Rattle.policy.specs.Table.{Kind, head, user, edge, formula, demarcation, hierarchy, principal, exclusion, prerequisite, method, end}
-use Rattle.policy.specs.Table.{code, isKind, count, columns, room, row, emptied, blank, appended, withMemo}
+use Rattle.policy.specs.Table.{code, isKind, count, columns, room, row, emptied, blank, appended, indexOf, withMemo, withIndex, indexed}
 use Rattle.policy.specs.TableLaws.{ColumnLengths, same-kind, written, count-other, columns-other, count-same, columns-same}
 use Rattle.policy.specs.GrowthLaws.{blank-empty}
 use Rattle.policy.specs.Loadable.{loadable}
-use Rattle.policy.specs.LoadableLaws.{loadable-table, table-zero}
+use Rattle.policy.specs.LoadableLaws.{loadable-table, own-index, table-zero}
 use Rattle.bundle.specs.CutLaws.{cut, columns-none, columns-more, columns-at, columns-all}
 use Rattle.bundle.specs.CheckLaws.{Agree}
 
@@ -151,10 +152,10 @@ whole-head r s =
 abbrev Same : Record → Record → Kind → Type 0
 Same p r k = (count k p ≡ count k r) × (columns k p ≡ columns k r)
 
-same-record : (p r : Record) (m : Memo) → p .objects ≡ r .objects → p .memo ≡ m → ((k : Kind) → code k < 0x0B → Same p r k)
-    → p ≡ withMemo r m
-unfolding withMemo
-same-record p r m o e same =
+same-record : (p r : Record) (m : Memo) {y : EdgeIndex} → p .objects ≡ r .objects → y ≡ r .index → p .memo ≡ m
+    → ((k : Kind) → code k < 0x0B → Same p r k) → withIndex p y ≡ withMemo r m
+unfolding withMemo withIndex
+same-record p r m o y e same =
     let u = same user (omega arith) in
     let g = same edge (omega arith) in
     let f = same formula (omega arith) in
@@ -194,11 +195,16 @@ same-record p r m o e same =
       «method_count» = w .0 t;
       «method_forms» = getD (w .1 t) 0 [];
       «method_privileges» = getD (w .1 t) 1 [];
+      index = y t;
       memo = e t;
     }
 
--- once all kinds are whole, only the memo is another
-pub whole-all : (r p : Record) → loadable r ≡ true → Whole r 0x0B p → p ≡ withMemo r (emptied 0 0)
+-- once all kinds are whole and the index is built, only the memo is another: the edges are the same, and so is their index
+pub whole-all : (r p : Record) → loadable r ≡ true → Whole r 0x0B p → indexed p ≡ withMemo r (emptied 0 0)
 whole-all r p loads w =
-    same-record p r (emptied 0 0) (objects-same (w .before head (omega arith))) (w .memo)
+    same-record p r (emptied 0 0) (objects-same (w .before head (omega arith)))
+    ((λ t. indexOf (table (edges .counted t) (λ i. map (λ c. at c i) (first-all loads edges t)))) ∙ sym (own-index r loads)) (w .memo)
     (λ k l. (w .before k l .counted, first-all loads (w .before k l)))
+  where
+    edges : FirstLines r edge (count edge r) p
+    edges = w .before edge (omega arith)

@@ -77,3 +77,7 @@ loaded-written text {before} e c room =
       c .answers ∙ rw (loads, short) (λ j. record { number = 0; length = length (same j) }),
       c .buffer ∙ rw (loads, short) (λ j. same j ++ drop (length (same j)) before),
     )
+
+-- and a loaded record is equal to the written and loaded one, index and memo included
+pub loaded-again : (text : List ℕ) → load text .number ≡ 0 → load (bundleOf (load text .rules)) ≡ load text
+loaded-again text e = ap load (load-write text e)

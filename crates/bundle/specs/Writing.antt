@@ -1,4 +1,4 @@
--- Writing a record: the lines of its tables in the order of the kinds, then the end line. The memo isn't written.
+-- Writing a record: the lines of its tables in the order of the kinds, then the end line. The memo and the index aren't written.
 use Prim.Native.Nat.{ℕ}
 use mathlib.Core.Bool.{not, cond}
 use mathlib.Core.List.{List, [], _∷_, _++_, map}

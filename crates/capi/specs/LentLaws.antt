@@ -8,6 +8,7 @@ use Rattle.policy.specs.declared.Record.{Record}
 use Rattle.reading.specs.Loading.{load}
 use Rattle.tickets.specs.declared.Ticket.{Ticket}
 use Rattle.history.specs.Book.{Call, checkTicket, engineAfter}
+use Rattle.history.specs.IndexAnew.{IndexAnew, index-anew}
 use Rattle.replay.specs.Replay.{call, listedCallAt, bufferAfter}
 use Rattle.replay.specs.ReplayLaws.{callsBefore, tickets-leave}
 use Rattle.replay.specs.Parts.{Part, leftAfterParts, partsCalls, partsCount, PointHolds}
@@ -20,10 +21,11 @@ pub data Answered : Record → List Part → Record → Type 0 where
   first : {r next left : Record} {p : Part} {ps : List Part} {n : ℕ} {after : List ℕ}
       → Answers r (p .calls) (p .buffer) n next after → Answered next ps left → Answered r (p ∷ ps) left
 
--- the record is the engine's after all calls so far; and whatever part `access_answer` is given next, each call that it answers holds
--- beside the book after all calls before it, and has its answer in the buffer
+-- the record is the engine's after all calls so far, and its index the one that building anew would give; and whatever part
+-- `access_answer` is given next, each call that it answers holds beside the book after all calls before it, and has its answer in the buffer
 pub record LentHolds (text : List ℕ) (loads : load text .number ≡ 0) (ps : List Part) (left : Record) : Type 0 where
   pub engine : left ≡ engineAfter (load text .rules) (callsBefore (partsCalls ps) (partsCount ps))
+  pub index : IndexAnew left
   pub next : (p : Part) {n : ℕ} {then : Record} {after : List ℕ} → Answers left (p .calls) (p .buffer) n then after
       → (i : ℕ) → i < n → (c : Call) → listedCallAt (p .calls) i ≡ call c → PointHolds text loads ps p i c after
 
@@ -43,6 +45,7 @@ lent-holds text e ps left h =
     let all = parts-hold text (loaded text e) ps in
     record {
       engine = same ∙ all .left;
+      index = subst IndexAnew (sym (same ∙ all .left)) (index-anew text (loaded text e) _);
       next = λ p a i l c f.
           let buffer = a .buffer ∙ ap (λ (x : Record). bufferAfter x (p .calls) (p .buffer)) same in
           subst (PointHolds text (loaded text e) ps p i c) (sym buffer) (all .next p i (subst (λ (n : ℕ). i < n) (a .count) l) c f);

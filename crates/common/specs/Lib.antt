@@ -10,3 +10,4 @@ pub mod SetLaws
 pub mod CountLaws
 pub mod QuantifierLaws
 pub mod OrderLaws
+pub mod Halving

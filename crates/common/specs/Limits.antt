@@ -47,6 +47,10 @@ highestLabel = 15
 abbrev pub highestRole : ℕ
 highestRole = 15
 
+-- so many labels
+abbrev pub labelCount : ℕ
+labelCount = 16
+
 -- request 2026-03: "In all three, a is 0 to 3": so many slots
 abbrev pub highestSlot : ℕ
 highestSlot = 3

@@ -1,13 +1,13 @@
 -- Laws of lists: by places, and quantifiers over a table row by row.
 use Prim.Native.Nat.{ℕ, zero, suc, _+_, _≤_, _<_}
 use mathlib.Core.Path.{_≡_, refl, sym, _∙_, ap}
-use mathlib.Core.Bool.{Bool, true, false, _&&_, _||_}
+use mathlib.Core.Bool.{Bool, true, false, false≢true, _&&_, _||_}
 use mathlib.Core.List.{List, [], _∷_, _++_, map, map-append}
 use native.Mathlib.Omega.{arith}
 use native.Mathlib.Numerals.{add-one}
 use lib.ListN.{length, getD, take, drop, replicate}
 use lib.Dec.{eqb}
-use borrow.Author.Tests.{eq-eqb}
+use borrow.Author.Tests.{eq-eqb, eqb-true}
 use lib.Seq.{take-suc, drop-cons}
 use Rattle.common.specs.Lists.{at, any, every, table, same}
 use Rattle.common.specs.BoolLaws.{and-true, and-cases, and-both}
@@ -95,6 +95,13 @@ table-take (suc n) s h = ap (λ (l : List ℕ). l ++ (at s n ∷ [])) (table-tak
 pub same-self : (l : List ℕ) → same l l ≡ true
 same-self [] = refl
 same-self (x ∷ l) = and-both (eqb x x) (same l l) (eq-eqb x x refl) (same-self l)
+
+-- and rows that are the same are equal
+pub same-is : (l m : List ℕ) → same l m ≡ true → l ≡ m
+same-is [] [] e = refl
+same-is [] (y ∷ m) e = absurd (false≢true e)
+same-is (x ∷ l) [] e = absurd (false≢true e)
+same-is (x ∷ l) (y ∷ m) e = let p = and-cases (eqb x y) _ e in λ j. eqb-true x y (p .0) j ∷ same-is l m (p .1) j
 
 -- a column of zeros
 pub zero-at : (n g : ℕ) → at (replicate n 0) g ≡ 0

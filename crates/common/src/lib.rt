@@ -81,6 +81,8 @@ pub const MOST_EXCLUSIONS: usize = 190;
 // Labels and roles are 0 to 15, slots 0 to 3, privileges 0 to 63.
 pub const HIGHEST_LABEL: u8 = 15;
 
+pub const LABEL_COUNT: usize = 16;
+
 pub const HIGHEST_ROLE: u8 = 15;
 
 pub const HIGHEST_SLOT: u8 = 3;

@@ -1,7 +1,7 @@
 -- A formula by its parts, and an edge scan by its two passes: the recursion of the definition, as the evaluation goes through it.
 use Prim.Native.Nat.{ℕ, zero, suc, _<_, _≤_}
 use mathlib.Core.Path.{_≡_, refl, sym, _∙_, ap}
-use mathlib.Core.Bool.{Bool, true, false, not, _&&_, _||_, and-assoc, and-or-distrib-left}
+use mathlib.Core.Bool.{Bool, true, false, cond, not, _&&_, _||_, and-assoc, and-or-distrib-left}
 use mathlib.Core.List.{List, [], _∷_}
 use native.Mathlib.Omega.{arith}
 use lib.Dec.{eqb}
@@ -11,12 +11,14 @@ use Rattle.common.specs.ListLaws.{any-more}
 use Rattle.common.specs.BoolLaws.{and-true, and-false, and-cases, and-both, same-test}
 use Rattle.rows.specs.Op.{opOf}
 use Rattle.rows.specs.OpLaws.{op-above}
-use Rattle.vertices.specs.Steps.{leads, isIn, Among, edgesIn}
+use Rattle.edge_index.specs.Index.{Indexed}
+use Rattle.edge_index.specs.Spans.{Span}
+use Rattle.vertices.specs.Steps.{leads, isIn, Among, FoundAtEnds, edgesIn}
 use Rattle.vertices.specs.StepLaws.{some-edge, edge-some}
 use Rattle.formula.specs.Formula.{Context, Formulas, Slot, trueOf, slot, keep, meaning, trueBelow}
 use Rattle.formula.specs.Uses.{readsSlot}
 use Rattle.formula.specs.SlotLaws.{kept-unread}
-use Rattle.formula.specs.Evaluation.{formulaAt}
+use Rattle.formula.specs.Evaluation.{formulaAt, Direction}
 use Rattle.formula.specs.EvaluationLaws.{below-out, below-in}
 use Rattle.vertices.proofs.VertexSets.{at-asked}
 
@@ -147,11 +149,34 @@ module _ (fs : Formulas) (c : Context) (f : ℕ) (asked : List Bool) {r : List B
   unfolding meaning formulaAt
   no-op l h = record { members = λ v. h v ∙ sym (rw (op-above (at (fs .ops) f) l) (and-false (isIn asked v))) }
 
+-- the columns that an edge scan goes along are those of its direction, so that it may go by the index
+pub along : {n : ℕ} {labels from to starts ends places : List ℕ} {l : ℕ} {backward : Bool} {first stop : ℕ}
+    → Direction backward from to starts ends → Span n labels (cond backward to from) places l backward first stop
+    → Span n labels starts places l backward first stop
+along d h = rw (d .start) h
+
+-- the index is that of as many edges
+pub still-indexed : {m n : ℕ} {labels from to firsts counts places : List ℕ} → m ≡ n → Indexed n labels from to firsts counts places
+    → Indexed m labels from to firsts counts places
+still-indexed e h = rw e h
+
+-- a part that is asked at every vertex
+pub found-everywhere : (b : ℕ) (Q : ℕ → ℕ → Bool) {all found : List Bool} {g : ℕ} → g ≡ b → ((v : ℕ) → v < 256 → isIn all v ≡ true)
+    → Among all (Q g) found → (v : ℕ) → v < 256 → isIn found v ≡ Q b v
+found-everywhere b Q e asks finds v l = finds .members v ∙ (λ j. asks v l j && Q (e j) v)
+
+-- what is found where edges end is at the end of an edge
+found-reached : (es : List (List ℕ)) (a : ℕ) (asked : List Bool) {reached found : List Bool} {Q : ℕ → Bool}
+    → ((w : ℕ) → isIn reached w ≡ leads es 2 1 a (isIn asked) w) → Among reached Q found → FoundAtEnds es a asked found
+found-reached es a asked {reached} {Q = Q} reaches finds v t =
+    sym (reaches v) ∙ and-cases (isIn reached v) (Q v) (sym (finds .members v) ∙ t) .0
+
 -- an edge scan: what is found where the edges end that start at asked vertices, Q there, says as much of these as Q itself
 pub scanned : (es : List (List ℕ)) (a b : ℕ) (Q : ℕ → ℕ → Bool) {asked reached found r : List Bool} {g : ℕ} → g ≡ b
-    → ((w : ℕ) → isIn reached w ≡ leads es 2 1 a (isIn asked) w) → Among reached (Q g) found → Among asked (leads es 1 2 a (isIn found)) r
-    → Among asked (leads es 1 2 a (Q b)) r
-scanned es a b Q {asked} {reached} {found} e reaches finds h = record { members = λ v. h .members v ∙ go v (isIn asked v) refl }
+    → ((w : ℕ) → isIn reached w ≡ leads es 2 1 a (isIn asked) w) → Among reached (Q g) found
+    → (FoundAtEnds es a asked found → Among asked (leads es 1 2 a (isIn found)) r) → Among asked (leads es 1 2 a (Q b)) r
+scanned es a b Q {asked} {reached} {found} e reaches finds h =
+    record { members = λ v. h (found-reached es a asked reaches finds) .members v ∙ go v (isIn asked v) refl }
   where
     is-found : (w : ℕ) → isIn found w ≡ (leads es 2 1 a (isIn asked) w && Q b w)
     is-found w = finds .members w ∙ (λ j. reaches w j && Q (e j) w)
@@ -177,13 +202,6 @@ scanned es a b Q {asked} {reached} {found} e reaches finds h = record { members 
           edge-some _ es e i (and-both (eqb (at e 0) a) _ l (and-both (eqb (at e 1) v) (isIn found (at e 2)) m q))),
     )
 
--- what is found where edges end is at the end of an edge
-pub found-reached : (es : List (List ℕ)) (a : ℕ) (asked : List Bool) {reached found : List Bool} {Q : ℕ → Bool}
-    → ((w : ℕ) → isIn reached w ≡ leads es 2 1 a (isIn asked) w) → Among reached Q found
-    → (v : ℕ) → isIn found v ≡ true → leads es 2 1 a (isIn asked) v ≡ true
-found-reached es a asked {reached} {Q = Q} reaches finds v t =
-    sym (reaches v) ∙ and-cases (isIn reached v) (Q v) (sym (finds .members v) ∙ t) .0
-
 -- a part at the vertex i by itself, with i kept in slot a
 pub kept-one : (fs : Formulas) (c : Context) (f a b i : ℕ) {d e : Context} {g : ℕ} (asked each : List Bool) {one t : List Bool} → each ≡ asked
     → d ≡ c → e ≡ keep d a i → g ≡ b → Among asked (λ v. eqb v i) one → Among one (trueBelow fs e f g) t
@@ -200,7 +218,7 @@ pub at-one : (fs : Formulas) (c : Context) (f b x : ℕ) {d : Context} {g i : �
 at-one fs c f b x alike p e asks h = at-asked h e asks ∙ (λ j. trueBelow fs (alike j) f (p j) x)
 
 -- a part that does not read slot a, at all asked vertices together
-pub kept-none : (fs : Formulas) (c : Context) (f a b : ℕ) {g : ℕ} (asked : List Bool) {r : List Bool} → readsSlot fs f b a ≡ false → g ≡ b
-    → Among asked (trueBelow fs c f g) r → (v : ℕ) → isIn r v ≡ (isIn asked v && trueBelow fs (keep c a v) f b v)
-kept-none fs c f a b asked e p h v =
-    h .members v ∙ (λ j. isIn asked v && trueBelow fs c f (p j) v) ∙ (λ j. isIn asked v && sym (kept-unread fs f c a v b v e) j)
+pub kept-none : (fs : Formulas) (c : Context) (f a b : ℕ) {g : ℕ} (asked : List Bool) {r : List Bool} {reads : Bool} → reads ≡ readsSlot fs f b a
+    → reads ≡ false → g ≡ b → Among asked (trueBelow fs c f g) r → (v : ℕ) → isIn r v ≡ (isIn asked v && trueBelow fs (keep c a v) f b v)
+kept-none fs c f a b asked e unread p h v =
+    h .members v ∙ (λ j. isIn asked v && trueBelow fs c f (p j) v) ∙ (λ j. isIn asked v && sym (kept-unread fs f c a v b v (sym e ∙ unread)) j)

@@ -1,5 +1,6 @@
 -- What the evaluation's functions answer: sets of vertices as tables of bools, on edges, formulas and users lent column by column.
 use Prim.Native.Nat.{ℕ}
+use mathlib.Core.Path.{_≡_}
 use mathlib.Core.Bool.{Bool, cond, _&&_}
 use mathlib.Core.List.{List, [], _∷_, map}
 use lib.ListN.{getD}
@@ -43,6 +44,11 @@ contextIn q labels from to =
 -- formula f by its parts, at v
 unfoldable pub formulaAt : Formulas → Context → ℕ → ℕ → Bool
 formulaAt fs c f v = meaning c (opOf (at (fs .ops) f)) (at (fs .lefts) f) (at (fs .rights) f) (λ d. trueBelow fs d f) v
+
+-- the columns that an edge scan goes along: (from, to) forward, (to, from) backward
+pub record Direction (backward : Bool) (from to starts ends : List ℕ) : Type 0 where
+  pub start : starts ≡ cond backward to from
+  pub end : ends ≡ cond backward from to
 
 -- what `true_at_object` answers on a record's columns, where the requestor s holds the roles
 abbrev pub trueAtObject : Record → ℕ → ℕ → ℕ → ℕ → Bool

@@ -1,21 +1,24 @@
 // Formulas, evaluated on sets of vertices: a table of 256 bools says at which vertices a formula is true.
-// The columns of a record are lent, so that none is copied.
+// The columns of a record and of its index of edges are lent, so that none is copied. An edge scan passes over the edges of its label only:
+// forward in the edges' own order, backward in the order of the index's places.
 
 ghost use mathlib.Core.Path.{_≡_};
 ghost use mathlib.Core.Bool.{Bool, true, false, not, _&&_};
 ghost use mathlib.Core.List.{List};
 ghost use Prim.Native.Nat.{ℕ, _≤_, _<_};
 ghost use lib.Dec.{eqb};
-ghost use Rattle.common.specs.Limits.{mostUsers, mostEdges, mostFormulas};
+ghost use Rattle.common.specs.Limits.{mostUsers, mostFormulas};
 ghost use Rattle.common.specs.Lists.{at};
 ghost use Rattle.common.specs.Sets.{member};
 ghost use Rattle.rows.specs.Op.{opOf};
+ghost use Rattle.edge_index.specs.Index.{Indexed};
 ghost use Rattle.vertices.specs.Steps.{leads, isIn, Among, edgesIn};
 ghost use Rattle.formula.specs.Formula.{Context, trueOf, keep, slot, meaning, trueBelow};
 ghost use Rattle.formula.specs.Uses.{readsOf, readsSlot};
-ghost use Rattle.formula.specs.Evaluation.{formulasIn, slotOf, slotIn, contextOf, contextIn, formulaAt, holdsRoleIn};
+ghost use Rattle.formula.specs.Evaluation.{formulasIn, slotOf, slotIn, contextOf, contextIn, formulaAt, holdsRoleIn, Direction};
 use common::HIGHEST_ROLE;
 use common::HIGHEST_SLOT;
+use common::LABEL_COUNT;
 use common::MOST_EDGES;
 use common::MOST_FORMULAS;
 use common::MOST_USERS;
@@ -178,6 +181,9 @@ fn evaluate<'a, 'b>(
     labels: &'a [u8; MOST_EDGES],
     from: &'a [u8; MOST_EDGES],
     to: &'a [u8; MOST_EDGES],
+    firsts: &'a [u16; LABEL_COUNT],
+    counts: &'a [u16; LABEL_COUNT],
+    places: &'a [u16; MOST_EDGES],
     ops: &'a [u8; MOST_FORMULAS],
     lefts: &'a [u8; MOST_FORMULAS],
     rights: &'a [u8; MOST_FORMULAS],
@@ -185,7 +191,7 @@ fn evaluate<'a, 'b>(
     f: usize,
     asked: &'b Vertices,
 ) -> Vertices
-    requires { ⌜ (q .«edge_count» ≤ mostEdges) × (n ≤ mostFormulas) ⌝ }
+    requires { ⌜ Indexed (q .«edge_count») (now labels) (now from) (now to) (now firsts) (now counts) (now places) × (n ≤ mostFormulas) ⌝ }
     ensures { λ r. ⌜ Among (now (asked .entry))
         (trueBelow (formulasIn (now (ops .entry)) (now (lefts .entry)) (now (rights .entry)))
         (contextIn q (now (labels .entry)) (now (from .entry)) (now (to .entry))) n f) r ⌝ }
@@ -196,12 +202,83 @@ fn evaluate<'a, 'b>(
     let op = ops[f];
     match op {
         0..=3 => plain(q, op, lefts[f], asked),
-        4..=6 => connective(q, labels, from, to, ops, lefts, rights, f, asked),
-        7 => scan_edges(q, labels, from, to, ops, lefts, rights, from, to, f, asked),
-        8 => scan_edges(q, labels, from, to, ops, lefts, rights, to, from, f, asked),
-        9 => keep_each(q, labels, from, to, ops, lefts, rights, f, asked),
+        4..=6 => connective(
+            q,
+            labels,
+            from,
+            to,
+            firsts,
+            counts,
+            places,
+            ops,
+            lefts,
+            rights,
+            f,
+            asked,
+        ),
+        7 => scan_edges(
+            q,
+            labels,
+            from,
+            to,
+            firsts,
+            counts,
+            places,
+            ops,
+            lefts,
+            rights,
+            from,
+            to,
+            false,
+            f,
+            asked,
+        ),
+        8 => scan_edges(
+            q,
+            labels,
+            from,
+            to,
+            firsts,
+            counts,
+            places,
+            ops,
+            lefts,
+            rights,
+            to,
+            from,
+            true,
+            f,
+            asked,
+        ),
+        9 => keep_each(
+            q,
+            labels,
+            from,
+            to,
+            firsts,
+            counts,
+            places,
+            ops,
+            lefts,
+            rights,
+            f,
+            asked,
+        ),
         10 => in_slot(q, lefts[f], asked),
-        11 => at_slot(q, labels, from, to, ops, lefts, rights, f, asked),
+        11 => at_slot(
+            q,
+            labels,
+            from,
+            to,
+            firsts,
+            counts,
+            places,
+            ops,
+            lefts,
+            rights,
+            f,
+            asked,
+        ),
         12..=255 => vertices::none(),
     }
 }
@@ -212,26 +289,72 @@ fn connective<'a, 'b>(
     labels: &'a [u8; MOST_EDGES],
     from: &'a [u8; MOST_EDGES],
     to: &'a [u8; MOST_EDGES],
+    firsts: &'a [u16; LABEL_COUNT],
+    counts: &'a [u16; LABEL_COUNT],
+    places: &'a [u16; MOST_EDGES],
     ops: &'a [u8; MOST_FORMULAS],
     lefts: &'a [u8; MOST_FORMULAS],
     rights: &'a [u8; MOST_FORMULAS],
     f: usize,
     asked: &'b Vertices,
 ) -> Vertices
-    requires { ⌜ (q .«edge_count» ≤ mostEdges) × (f < mostFormulas) × (4 ≤ at (now ops) f) × (at (now ops) f ≤ 6) ⌝ }
+    requires { ⌜ Indexed (q .«edge_count») (now labels) (now from) (now to) (now firsts) (now counts) (now places)
+        × (f < mostFormulas) × (4 ≤ at (now ops) f) × (at (now ops) f ≤ 6) ⌝ }
     ensures { λ r. ⌜ Among (now (asked .entry))
         (formulaAt (formulasIn (now (ops .entry)) (now (lefts .entry)) (now (rights .entry)))
         (contextIn q (now (labels .entry)) (now (from .entry)) (now (to .entry))) f) r ⌝ }
 {
     let op = ops[f];
-    let a = index(lefts[f]);
-    let b = index(rights[f]);
-    let t = evaluate(q, labels, from, to, ops, lefts, rights, f, a, asked);
+    let left = index(lefts[f]);
+    let right = index(rights[f]);
+    let t = evaluate(
+        q,
+        labels,
+        from,
+        to,
+        firsts,
+        counts,
+        places,
+        ops,
+        lefts,
+        rights,
+        f,
+        left,
+        asked,
+    );
     match op {
         4 => vertices::minus(*asked, t),
-        5 => evaluate(q, labels, from, to, ops, lefts, rights, f, b, &t),
+        5 => evaluate(
+            q,
+            labels,
+            from,
+            to,
+            firsts,
+            counts,
+            places,
+            ops,
+            lefts,
+            rights,
+            f,
+            right,
+            &t,
+        ),
         _ => {
-            let u = evaluate(q, labels, from, to, ops, lefts, rights, f, b, asked);
+            let u = evaluate(
+                q,
+                labels,
+                from,
+                to,
+                firsts,
+                counts,
+                places,
+                ops,
+                lefts,
+                rights,
+                f,
+                right,
+                asked,
+            );
             vertices::union(t, u)
         }
     }
@@ -247,37 +370,48 @@ fn has_no_parts<'a>(ops: &'a [u8; MOST_FORMULAS], b: usize) -> bool {
 }
 
 // Of the asked vertices those from which an edge with the label of formula f leads, from `starts` to `ends`, to one where its right
-// part is true. A part that has parts itself is asked only where such an edge ends.
+// part is true. Only the edges with that label are passed over, at their positions in the order of the direction. A part that has parts
+// itself is asked only where such an edge ends.
 fn scan_edges<'a, 'b>(
     q: ContextNumbers,
     labels: &'a [u8; MOST_EDGES],
     from: &'a [u8; MOST_EDGES],
     to: &'a [u8; MOST_EDGES],
+    firsts: &'a [u16; LABEL_COUNT],
+    counts: &'a [u16; LABEL_COUNT],
+    places: &'a [u16; MOST_EDGES],
     ops: &'a [u8; MOST_FORMULAS],
     lefts: &'a [u8; MOST_FORMULAS],
     rights: &'a [u8; MOST_FORMULAS],
     starts: &'a [u8; MOST_EDGES],
     ends: &'a [u8; MOST_EDGES],
+    backward: bool,
     f: usize,
     asked: &'b Vertices,
 ) -> Vertices
-    requires { ⌜ (q .«edge_count» ≤ mostEdges) × (f < mostFormulas) ⌝ }
+    requires { ⌜ Indexed (q .«edge_count») (now labels) (now from) (now to) (now firsts) (now counts) (now places)
+        × (f < mostFormulas) × Direction backward (now from) (now to) (now starts) (now ends) ⌝ }
     ensures { λ r. ⌜ Among (now (asked .entry))
         (leads (edgesIn (q .«edge_count») (now (labels .entry)) (now (starts .entry)) (now (ends .entry))) 1 2 (at (now (lefts .entry)) f)
         (trueBelow (formulasIn (now (ops .entry)) (now (lefts .entry)) (now (rights .entry)))
         (contextIn q (now (labels .entry)) (now (from .entry)) (now (to .entry))) f (at (now (rights .entry)) f))) r ⌝ }
 {
-    let n = q.edge_count;
     let a = lefts[f];
+    let span = edge_index::positions_of(firsts, counts, a);
+    let first = span.first;
+    let stop = span.stop;
     let b = index(rights[f]);
     let x = q.alone;
     let one = vertices::none_beside(asked, x);
     if !one & has_no_parts(ops, b) {
-        let found = evaluate(
+        let t = evaluate(
             q,
             labels,
             from,
             to,
+            firsts,
+            counts,
+            places,
             ops,
             lefts,
             rights,
@@ -285,11 +419,25 @@ fn scan_edges<'a, 'b>(
             b,
             &vertices::all(),
         );
-        return vertices::starts_to(n, labels, a, starts, ends, asked, &found);
+        return vertices::starts_to(starts, ends, places, backward, first, stop, asked, &t);
     }
-    let reached = vertices::reached_from(n, labels, a, starts, ends, x, one, asked);
-    let found = evaluate(q, labels, from, to, ops, lefts, rights, f, b, &reached);
-    vertices::leading_to(n, labels, a, starts, ends, one, asked, &found)
+    let there = vertices::reached_from(starts, ends, places, backward, first, stop, x, one, asked);
+    let t = evaluate(
+        q,
+        labels,
+        from,
+        to,
+        firsts,
+        counts,
+        places,
+        ops,
+        lefts,
+        rights,
+        f,
+        b,
+        &there,
+    );
+    vertices::leading_to(starts, ends, places, backward, first, stop, one, asked, &t)
 }
 
 // Of the asked vertices those where formula f is true, whose op is 9: the right part is evaluated at each by itself, with that vertex
@@ -299,13 +447,17 @@ fn keep_each<'a, 'b>(
     labels: &'a [u8; MOST_EDGES],
     from: &'a [u8; MOST_EDGES],
     to: &'a [u8; MOST_EDGES],
+    firsts: &'a [u16; LABEL_COUNT],
+    counts: &'a [u16; LABEL_COUNT],
+    places: &'a [u16; MOST_EDGES],
     ops: &'a [u8; MOST_FORMULAS],
     lefts: &'a [u8; MOST_FORMULAS],
     rights: &'a [u8; MOST_FORMULAS],
     f: usize,
     asked: &'b Vertices,
 ) -> Vertices
-    requires { ⌜ (q .«edge_count» ≤ mostEdges) × (f < mostFormulas) × (at (now ops) f ≡ 9) ⌝ }
+    requires { ⌜ Indexed (q .«edge_count») (now labels) (now from) (now to) (now firsts) (now counts) (now places)
+        × (f < mostFormulas) × (at (now ops) f ≡ 9) ⌝ }
     ensures { λ r. ⌜ Among (now (asked .entry))
         (formulaAt (formulasIn (now (ops .entry)) (now (lefts .entry)) (now (rights .entry)))
         (contextIn q (now (labels .entry)) (now (from .entry)) (now (to .entry))) f) r ⌝ }
@@ -314,7 +466,21 @@ fn keep_each<'a, 'b>(
     let right = rights[f];
     let b = index(right);
     if !reads_slot(ops, lefts, rights, f, right, a) {
-        return evaluate(q, labels, from, to, ops, lefts, rights, f, b, asked);
+        return evaluate(
+            q,
+            labels,
+            from,
+            to,
+            firsts,
+            counts,
+            places,
+            ops,
+            lefts,
+            rights,
+            f,
+            b,
+            asked,
+        );
     }
     let each = vertices::whole(*asked);
     let mut r = vertices::none();
@@ -326,7 +492,21 @@ fn keep_each<'a, 'b>(
             let v = k as u8;
             let kept = keeping(asking(q, v), a, v);
             let one = vertices::only(asked, v);
-            let t = evaluate(kept, labels, from, to, ops, lefts, rights, f, b, &one);
+            let t = evaluate(
+                kept,
+                labels,
+                from,
+                to,
+                firsts,
+                counts,
+                places,
+                ops,
+                lefts,
+                rights,
+                f,
+                b,
+                &one,
+            );
             r[k] = t[k];
         }
     }
@@ -339,13 +519,17 @@ fn at_slot<'a, 'b>(
     labels: &'a [u8; MOST_EDGES],
     from: &'a [u8; MOST_EDGES],
     to: &'a [u8; MOST_EDGES],
+    firsts: &'a [u16; LABEL_COUNT],
+    counts: &'a [u16; LABEL_COUNT],
+    places: &'a [u16; MOST_EDGES],
     ops: &'a [u8; MOST_FORMULAS],
     lefts: &'a [u8; MOST_FORMULAS],
     rights: &'a [u8; MOST_FORMULAS],
     f: usize,
     asked: &'b Vertices,
 ) -> Vertices
-    requires { ⌜ (q .«edge_count» ≤ mostEdges) × (f < mostFormulas) × (at (now ops) f ≡ 11) ⌝ }
+    requires { ⌜ Indexed (q .«edge_count») (now labels) (now from) (now to) (now firsts) (now counts) (now places)
+        × (f < mostFormulas) × (at (now ops) f ≡ 11) ⌝ }
     ensures { λ r. ⌜ Among (now (asked .entry))
         (formulaAt (formulasIn (now (ops .entry)) (now (lefts .entry)) (now (rights .entry)))
         (contextIn q (now (labels .entry)) (now (from .entry)) (now (to .entry))) f) r ⌝ }
@@ -360,7 +544,21 @@ fn at_slot<'a, 'b>(
     let mut one = vertices::none();
     one[i] = true;
     let alone = asking(q, x);
-    let t = evaluate(alone, labels, from, to, ops, lefts, rights, f, b, &one);
+    let t = evaluate(
+        alone,
+        labels,
+        from,
+        to,
+        firsts,
+        counts,
+        places,
+        ops,
+        lefts,
+        rights,
+        f,
+        b,
+        &one,
+    );
     if t[i] {
         return *asked;
     }
@@ -373,6 +571,9 @@ pub fn true_at_object<'a>(
     labels: &'a [u8; MOST_EDGES],
     from: &'a [u8; MOST_EDGES],
     to: &'a [u8; MOST_EDGES],
+    firsts: &'a [u16; LABEL_COUNT],
+    counts: &'a [u16; LABEL_COUNT],
+    places: &'a [u16; MOST_EDGES],
     ops: &'a [u8; MOST_FORMULAS],
     lefts: &'a [u8; MOST_FORMULAS],
     rights: &'a [u8; MOST_FORMULAS],
@@ -381,7 +582,7 @@ pub fn true_at_object<'a>(
     requestor: u8,
     f: usize,
 ) -> bool
-    requires { ⌜ «edge_count» ≤ mostEdges ⌝ }
+    requires { ⌜ Indexed «edge_count» (now labels) (now from) (now to) (now firsts) (now counts) (now places) ⌝ }
     ensures { λ r. ⌜ r ≡ trueBelow (formulasIn (now (ops .entry)) (now (lefts .entry)) (now (rights .entry)))
         (contextOf roles object requestor (edgesIn «edge_count» (now (labels .entry)) (now (from .entry)) (now (to .entry))))
         mostFormulas f object ⌝ }
@@ -398,7 +599,21 @@ pub fn true_at_object<'a>(
     let here = index(object);
     let mut asked = vertices::none();
     asked[here] = true;
-    let found = evaluate(q, labels, from, to, ops, lefts, rights, n, f, &asked);
+    let found = evaluate(
+        q,
+        labels,
+        from,
+        to,
+        firsts,
+        counts,
+        places,
+        ops,
+        lefts,
+        rights,
+        n,
+        f,
+        &asked,
+    );
     found[here]
 }
 

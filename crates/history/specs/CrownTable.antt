@@ -6,7 +6,7 @@ use mathlib.Core.List.{List, [], _∷_}
 use Rattle.common.specs.Refusals.{notEnabled, notConsistent, guardNotMet}
 use Rattle.policy.specs.declared.Record.{Record}
 use Rattle.policy.specs.Table.{changed, withMemo}
-use Rattle.policy.specs.Loadable.{tableLoads, loadable}
+use Rattle.policy.specs.Loadable.{tableLoads, indexAgrees, loadable}
 use Rattle.policy.specs.Edits.{removed}
 use Rattle.formula.specs.Formula.{meaning, trueBelow, holdsOn, holds}
 use Rattle.justification.specs.declared.Question.{Question}
@@ -24,7 +24,7 @@ use Rattle.loading.specs.Crown.{crown}
 
 -- what a proof by computation opens, beside what loading opens: of the record, of the grounds, of the questions
 unfoldable computing-record : Unit {0}
-unfolding computing changed withMemo tableLoads loadable removed questionRefusal isEnabled
+unfolding computing changed withMemo tableLoads indexAgrees loadable removed questionRefusal isEnabled
 computing-record = tt
 
 unfoldable computing-grounds : Unit {0}

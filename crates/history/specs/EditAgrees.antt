@@ -9,7 +9,7 @@ use lib.Dec.{ltb, leb, eqb}
 use borrow.Author.Tests.{eqb-true}
 use Rattle.common.specs.Limits.{mostEdges}
 use Rattle.common.specs.Lists.{same}
-use Rattle.common.specs.ListLaws.{length-table}
+use Rattle.common.specs.ListLaws.{length-table, same-is}
 use Rattle.common.specs.BoolLaws.{and-cases, and-false}
 use Rattle.common.specs.Causes.{cause, first}
 use Rattle.common.specs.Refusals.{edgeOutOfRange, edgePresent, edgeAbsent, edgesFull, notLoadable}
@@ -35,12 +35,6 @@ use Rattle.policy.specs.ColumnLengthLaws.{sized-changed}
 use Rattle.history.specs.Agrees.{Distinct, none, more, Agrees}
 
 -- ---- edges with one more, and with one less
-
-same-true : (d e : List ℕ) → same d e ≡ true → d ≡ e
-same-true [] [] h = refl
-same-true [] (y ∷ e) h = absurd (false≢true h)
-same-true (x ∷ d) [] h = absurd (false≢true h)
-same-true (x ∷ d) (y ∷ e) h = let p = and-cases (eqb x y) _ h in λ j. eqb-true x y (p .0) j ∷ same-true d e (p .1) j
 
 swap : (s t p q : Bool) → p ≡ (s || q) → (t || p) ≡ (s || (t || q))
 swap true true p q e = refl
@@ -74,8 +68,8 @@ module _ (e : List ℕ) where
     where
       go : (b : Bool) → same e f ≡ b → edgeIn (without e es) d ≡ (not (same e d) && edgeIn es d)
           → edgeIn (cond (not b) (f ∷ without e es) (without e es)) d ≡ (not (same e d) && (same d f || edgeIn es d))
-      go true u h = gone (same d f) (same e d) _ _ (λ t. ap (same e) (same-true d f t) ∙ u) h
-      go false u h = kept (same d f) (same e d) _ _ (λ t. ap (same e) (same-true d f t) ∙ u) h
+      go true u h = gone (same d f) (same e d) _ _ (λ t. ap (same e) (same-is d f t) ∙ u) h
+      go false u h = kept (same d f) (same e d) _ _ (λ t. ap (same e) (same-is d f t) ∙ u) h
 
   without-once : {es : List (List ℕ)} → Distinct es → edgeIn es e ≡ true → length (without e es) + 1 ≡ length es
   without-once none h = absurd (false≢true h)
@@ -83,7 +77,7 @@ module _ (e : List ℕ) where
     where
       go : (b : Bool) → same e f ≡ b → (b || edgeIn es e) ≡ true → (edgeIn es e ≡ true → length (without e es) + 1 ≡ length es)
           → length (cond (not b) (f ∷ without e es) (without e es)) + 1 ≡ suc (length es)
-      go true u h rest = let p = ap length (without-none e es (ap (edgeIn es) (same-true e f u) ∙ a)) in omega arith
+      go true u h rest = let p = ap length (without-none e es (ap (edgeIn es) (same-is e f u) ∙ a)) in omega arith
       go false u h rest = let p = rest h in omega arith
 
   without-distinct : {es : List (List ℕ)} → Distinct es → Distinct (without e es)

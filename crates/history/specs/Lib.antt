@@ -5,4 +5,5 @@ pub mod AskAgrees
 pub mod Demand3
 pub mod FirstBook
 pub mod Theorem
+pub mod IndexAnew
 pub mod CrownTable

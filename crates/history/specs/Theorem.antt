@@ -42,7 +42,7 @@ use Rattle.tickets.specs.Tickets.{ticketOf, ticketRefusal, SetNumber}
 use Rattle.tickets.specs.TicketLaws.{set-number, ticket-after}
 use Rattle.history.specs.Book.{Call, add, remove, askEagerly, askLazily, checkTicket, Book, BookAnswer, firstBook, holdsEdge}
 use Rattle.history.specs.Book.{addRefusal, removeRefusal, checkRefusal}
-use Rattle.history.specs.Book.{askRefusal, verdict, enabledIn, ask, bookAfterCall, numberAndSet, engineLeaves}
+use Rattle.history.specs.Book.{askRefusal, verdict, enabledIn, ask, bookAfterCall, bookAfter, numberAndSet, engineLeaves, engineAfter}
 use Rattle.history.specs.Agrees.{Distinct, Agrees}
 use Rattle.history.specs.EditAgrees.{distinct-rows, add-number, add-agrees, add-refused, remove-number, remove-agrees, remove-refused}
 use Rattle.history.specs.EditAgrees.{emptied-lengths, without-holds}
@@ -317,6 +317,12 @@ pub list-holds : (b : Record) (cs : List Call) (book : Book) (r : Record) → Ag
 list-holds b [] book r h = tt
 list-holds b (c ∷ cs) book r h =
     (call-holds b book r h c, list-holds b cs (bookAfterCall b book c) (engineLeaves r c) (call-agrees b book r h c))
+
+-- and the record that a list leaves agrees the book that it leaves
+pub list-agrees : (b : Record) (cs : List Call) (book : Book) (r : Record) → Agrees b book r → Agrees b (bookAfter b book cs) (engineAfter r cs)
+unfolding bookAfter engineAfter
+list-agrees b [] book r h = h
+list-agrees b (c ∷ cs) book r h = list-agrees b cs (bookAfterCall b book c) (engineLeaves r c) (call-agrees b book r h c)
 
 -- a record just loaded agrees the book of its edge lines
 pub start : (text : List ℕ) → load text .number ≡ 0 → Agrees (load text .rules) (firstBook text) (load text .rules)

@@ -2,3 +2,4 @@ pub mod Marking
 mod Excluding
 pub mod Asking
 mod Leading
+mod Masking

@@ -5,6 +5,7 @@ use mathlib.Core.Logic.{_↔_}
 use mathlib.Core.Bool.{Bool, true, false, not, cond, _&&_}
 use mathlib.Core.List.{List, [], _∷_}
 use lib.Dec.{eqb}
+use native.Mathlib.Omega.{arith}
 use Rattle.common.specs.Limits.{mostDemarcations, mostPrincipals, privilegeCount}
 use Rattle.common.specs.Lists.{at, any, every}
 use Rattle.common.specs.BoolLaws.{and-cases, and-both, or-left, or-left-only}
@@ -14,12 +15,13 @@ use Rattle.common.specs.SetLaws.{member-in, in-member, in-lt}
 use Rattle.closure.specs.Closure.{pairsOf, reaches}
 use Rattle.tables.specs.Loads.{pairsLoad}
 use Rattle.policy.specs.declared.Record.{Record}
-use Rattle.policy.specs.Table.{Kind, demarcation, hierarchy, principal}
+use Rattle.policy.specs.Table.{Kind, demarcation, hierarchy, principal, exclusion, prerequisite, method}
 use Rattle.policy.specs.Loadable.{tableLoads}
-use Rattle.policy.specs.LoadableLaws.{hierarchy-pairs, table-few}
-use Rattle.policy.specs.NamedLaws.{principal-named}
+use Rattle.policy.specs.LoadableLaws.{hierarchy-pairs, prerequisite-pairs, table-few}
+use Rattle.policy.specs.NamedLaws.{principal-named, exclusion-named}
 use Rattle.search.specs.Steps.{MetBy, Gathers}
 use Rattle.justification.specs.Justification.{demarcationHas, hasBelow, have, listed, meets}
+use Rattle.justification.specs.Masked.{MasksFit, groundsOf}
 use Rattle.justification.specs.declared.Question.{Question}
 use Rattle.justification.specs.Predicates.{isEnabled, enabled}
 use Rattle.justification.specs.MarkedSets.{Marks, Those}
@@ -56,6 +58,21 @@ grants-fit r loads = (
   table-few r principal (loads principal),
   λ p l. principal-named r loads p l .1,
 )
+
+-- and so are those that masks are made of
+pub masks-fit : (r : Record) (m : ℕ) → ((j : Kind) → tableLoads r j ≡ true) → m < r .«method_count» → MasksFit (groundsOf r) m
+masks-fit r m loads l =
+    let (ranked, demarcated, few, holding) = grants-fit r loads in
+    record {
+      hierarchy = ranked;
+      demarcated = demarcated;
+      few = few;
+      holding = holding;
+      excluding = table-few r exclusion (loads exclusion);
+      excluded = λ i k. exclusion-named r loads i k;
+      linked = prerequisite-pairs r ∙ loads prerequisite;
+      asked = let n = table-few r method (loads method) in omega arith;
+    }
 
 -- privileges that are granted by the columns are those that the record's principals have
 pub granted-below : (r : Record) (grants : List ℕ)

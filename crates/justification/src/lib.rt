@@ -12,19 +12,18 @@ ghost use Rattle.common.specs.Lists.{at};
 ghost use Rattle.common.specs.Sets.{In};
 ghost use Rattle.closure.specs.Closure.{pairsOf, reaches};
 ghost use Rattle.tables.specs.Loads.{pairsLoad};
-ghost use Rattle.policy.specs.Table.{Kind};
-ghost use Rattle.policy.specs.Loadable.{tableLoads};
+ghost use Rattle.policy.specs.declared.Record as records;
 ghost use Rattle.justification.specs.Justification.{hasBelow};
 ghost use Rattle.justification.specs.Satisfying.{AmongPairs};
-ghost use Rattle.justification.specs.Masked.{Masked};
+ghost use Rattle.justification.specs.Masked.{Masked, MasksFit, groundsIn, groundsOf};
 ghost use Rattle.justification.specs.Predicates.{isUserIn, refusalOf};
 ghost use Rattle.justification.specs.MarkedSets.{Marks};
 use common::MOST_DEMARCATIONS;
 use common::MOST_EXCLUSIONS;
+use common::MOST_METHODS;
 use common::MOST_PAIRS;
 use common::MOST_PRINCIPALS;
 use common::MOST_USERS;
-use policy::Record;
 use search::Masks;
 
 // A question names method, object, requestor.
@@ -182,40 +181,52 @@ fn excludes_of<'a>(
 
 // ---- the masks of a record
 
-// What the search needs of a record, for a method and the principals that are allowed.
-pub fn masks_of(rules: Record, method: usize, allowed: u32) -> Masks
-    requires { ⌜ ((j : Kind) → tableLoads rules j ≡ true) × (method < rules .«method_count») ⌝ }
-    ensures { λ r. ⌜ Masked rules method allowed r ⌝ }
+// What the search needs of a record, for a method and the principals that are allowed. The record's columns are lent.
+pub fn masks_of<'a>(
+    demarcations: usize,
+    lists: &'a [u64; MOST_DEMARCATIONS],
+    ranks: usize,
+    inferiors: &'a [u8; MOST_PAIRS],
+    superiors: &'a [u8; MOST_PAIRS],
+    principals: usize,
+    held: &'a [u8; MOST_PRINCIPALS],
+    exclusions: usize,
+    lows: &'a [u8; MOST_EXCLUSIONS],
+    highs: &'a [u8; MOST_EXCLUSIONS],
+    links: usize,
+    prerequisites: &'a [u8; MOST_PAIRS],
+    dependents: &'a [u8; MOST_PAIRS],
+    forms: &'a [u8; MOST_METHODS],
+    guards: &'a [u64; MOST_METHODS],
+    method: usize,
+    allowed: u32,
+) -> Masks
+    requires { ⌜ MasksFit (groundsIn demarcations (now lists) ranks (now inferiors) (now superiors) principals (now held)
+        exclusions (now lows) (now highs) links (now prerequisites) (now dependents) (now forms) (now guards)) method ⌝ }
+    ensures { λ r. ⌜ ((rules : records.Record) → groundsIn demarcations (now (lists .entry))
+        ranks (now (inferiors .entry)) (now (superiors .entry)) principals (now (held .entry))
+        exclusions (now (lows .entry)) (now (highs .entry)) links (now (prerequisites .entry)) (now (dependents .entry))
+        (now (forms .entry)) (now (guards .entry)) ≡ groundsOf rules → Masked rules method allowed r) ⌝ }
 {
-    let principals = rules.principal_count;
-    let excludes = excludes_of(
-        rules.exclusion_count,
-        &rules.exclusion_lows,
-        &rules.exclusion_highs,
-    );
-    let needs = leading_to(
-        principals,
-        rules.prerequisite_count,
-        &rules.prerequisites,
-        &rules.dependents,
-    );
+    let excludes = excludes_of(exclusions, lows, highs);
+    let needs = leading_to(principals, links, prerequisites, dependents);
     let grants = grants_of(
-        rules.demarcation_count,
-        &rules.demarcation_privileges,
-        rules.hierarchy_count,
-        &rules.inferiors,
-        &rules.superiors,
+        demarcations,
+        lists,
+        ranks,
+        inferiors,
+        superiors,
         principals,
-        &rules.principal_demarcations,
+        held,
     );
-    let wanted = listed(rules.method_privileges[method]);
+    let wanted = listed(guards[method]);
     Masks {
         count: principals,
         allowed: allowed,
         excludes: excludes,
         needs: needs,
         grants: grants,
-        every: rules.method_forms[method] != 0,
+        every: forms[method] != 0,
         wanted: wanted,
     }
 }

@@ -17,7 +17,7 @@ use Rattle.closure.specs.Closure.{circular}
 use Rattle.octets.specs.Line.{Framed, refused, octets, kindOctet, restOf, frame, lines}
 use Rattle.octets.specs.LineLaws.{accepted, lines-none, lines-cons}
 use Rattle.policy.specs.declared.Record.{Record}
-use Rattle.policy.specs.Table.{hierarchy, prerequisite, end, code, rows, appended, kindOf}
+use Rattle.policy.specs.Table.{hierarchy, prerequisite, end, code, rows, appended, indexed, kindOf}
 use Rattle.policy.specs.Rows.{inRange, rowCauses}
 use Rattle.lines.specs.NextLine.{noLine, refusedLine, nextOf, numberAt}
 use Rattle.lines.proofs.FoundLine.{FoundLine, kind-octet, refused-line, other-line}
@@ -174,5 +174,5 @@ module _ (text : List ℕ) (offset n : ℕ) (r : Record) where
     pub ended-circle : b ≡ true → notLoaded refusals.circle n ≡ endedAt text offset n r
     ended-circle h = sym (ended-here l ∙ rw (sym e ∙ h))
 
-    pub ended-well : b ≡ false → record { number = 0; line = 0; rules = r } ≡ endedAt text offset n r
-    ended-well h = sym (ended-here l ∙ rw (sym e ∙ h))
+    pub ended-well : b ≡ false → {s : Record} → s ≡ indexed r → record { number = 0; line = 0; rules = s } ≡ endedAt text offset n r
+    ended-well h p = (λ j. record { number = 0; line = 0; rules = p j }) ∙ sym (ended-here l ∙ rw (sym e ∙ h))

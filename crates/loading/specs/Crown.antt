@@ -4,6 +4,7 @@ use mathlib.Core.Path.{_≡_, refl}
 use mathlib.Core.List.{List, [], _∷_}
 use lib.ListN.{replicate}
 use Rattle.octets.specs.Line.{textOf}
+use Rattle.edge_index.specs.declared.EdgeIndex.{EdgeIndex}
 use Rattle.policy.specs.declared.Record.{Record}
 use Rattle.policy.specs.Table.{emptied}
 use Rattle.loading.specs.Examples.{computing}
@@ -41,6 +42,10 @@ crownLines =
 abbrev pub crown : List ℕ
 crown = textOf crownLines
 
+-- one edge with label 0, two with label 1; they rise by label, to, from as they do by label, from, to
+abbrev crownIndex : EdgeIndex
+crownIndex = record { firsts = 0 ∷ 1 ∷ replicate 14 3; counts = 1 ∷ 2 ∷ replicate 14 0; places = 0 ∷ 1 ∷ 2 ∷ replicate 509 0 }
+
 -- document 01, "The crown table"
 abbrev pub crownRecord : Record
 crownRecord =
@@ -74,6 +79,7 @@ crownRecord =
       «method_count» = 4;
       «method_forms» = 1 ∷ 0 ∷ 1 ∷ 1 ∷ replicate 28 0;
       «method_privileges» = 3 ∷ 4 ∷ 0 ∷ 7 ∷ replicate 28 0;
+      index = crownIndex;
       memo = emptied 0 0;
     }
 

@@ -5,14 +5,15 @@ use mathlib.Core.List.{List, [], _∷_, _++_}
 use lib.ListN.{replicate}
 use Rattle.octets.specs.Line.{digitValue, frame, lines, digits, textOf}
 use Rattle.closure.specs.Closure.{reaches, circular}
-use Rattle.policy.specs.Table.{blank, emptied, appended}
+use Rattle.edge_index.specs.Index.{indexIn}
+use Rattle.policy.specs.Table.{noIndex, blank, emptied, appended, withIndex}
 use Rattle.policy.specs.Height.{heightIn}
 use Rattle.policy.specs.Rows.{inRange, rowCauses, rowRefusal}
 use Rattle.reading.specs.Loading.{misplaced, endWrong, lineRefusal, afterLine, afterLastLine, read, load}
 
 -- what a proof by computation opens, of lines and tables, and of loading
 unfoldable pub computingTables : Unit {0}
-unfolding digitValue frame lines blank emptied appended heightIn reaches circular inRange rowCauses rowRefusal
+unfolding digitValue frame lines noIndex blank emptied appended withIndex indexIn heightIn reaches circular inRange rowCauses rowRefusal
 computingTables = tt
 
 unfoldable pub computing : Unit {0}

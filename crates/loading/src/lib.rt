@@ -3,7 +3,7 @@
 ghost use mathlib.Core.Path.{_≡_};
 ghost use Prim.Native.Nat.{_+_, _≤_};
 ghost use Rattle.common.specs.Limits.{mostLines};
-ghost use Rattle.policy.specs.Table.{end};
+ghost use Rattle.policy.specs.Table.{end, indexed};
 ghost use Rattle.reading.specs.Loading.{notLoaded};
 ghost use Rattle.reading.specs.Loading as loading;
 ghost use Rattle.reading.specs.Stages.{loadedFrom, endedAt, CirclesReady, Ready};
@@ -29,7 +29,23 @@ fn not_loaded(number: u8, line: usize) -> Loaded
     }
 }
 
+// The record with the index of its edges.
+fn with_index(mut rules: Record) -> Record
+    requires { ⌜ CirclesReady rules ⌝ }
+    ensures { λ r. ⌜ r ≡ indexed rules ⌝ }
+{
+    let index = edge_index::index_of(
+        rules.edge_count,
+        &rules.edge_labels,
+        &rules.edge_sources,
+        &rules.edge_targets,
+    );
+    rules.index = index;
+    rules
+}
+
 // After the end line: nothing more may stand in the text, and neither the hierarchy nor the prerequisites may hold a circle.
+// Then the index is built.
 fn ended(text: &[u8], offset: usize, lines: usize, rules: Record) -> Loaded
     requires { ⌜ (lines ≤ mostLines + 1) × CirclesReady rules ⌝ }
     ensures { λ r. ⌜ r ≡ endedAt (now (text .entry)) offset lines rules ⌝ }
@@ -54,7 +70,7 @@ fn ended(text: &[u8], offset: usize, lines: usize, rules: Record) -> Loaded
     Loaded {
         number: 0,
         line: 0,
-        rules: rules,
+        rules: with_index(rules),
     }
 }
 

@@ -3,8 +3,9 @@
 ghost use mathlib.Core.Path.{_≡_};
 ghost use mathlib.Core.Bool.{not, cond, _&&_};
 ghost use Prim.Native.Nat.{_≤_, _<_};
-ghost use Rattle.common.specs.Limits.{mostEdges, mostFormulas};
+ghost use Rattle.common.specs.Limits.{mostFormulas};
 ghost use Rattle.common.specs.Lists.{at, below};
+ghost use Rattle.edge_index.specs.Index.{Indexed};
 ghost use Rattle.policy.specs.declared.Record as records;
 ghost use Rattle.vertices.specs.Steps.{edgesIn};
 ghost use Rattle.formula.specs.Evaluation.{formulasIn, contextOf};
@@ -15,6 +16,7 @@ ghost use Rattle.memo.specs.Memo as memos;
 ghost use Rattle.memo.specs.Walk.{evaluatedAll, tried, weighedOf};
 ghost use Rattle.memo.specs.Lent.{FormulasFit, Principals, truthIn};
 ghost use Rattle.memo.specs.WalkLaws.{MemoLengths};
+use common::LABEL_COUNT;
 use common::MOST_EDGES;
 use common::MOST_FORMULAS;
 use common::MOST_PRINCIPALS;
@@ -47,6 +49,9 @@ fn evaluated<'a>(
     labels: &'a [u8; MOST_EDGES],
     sources: &'a [u8; MOST_EDGES],
     targets: &'a [u8; MOST_EDGES],
+    firsts: &'a [u16; LABEL_COUNT],
+    counts: &'a [u16; LABEL_COUNT],
+    places: &'a [u16; MOST_EDGES],
     ops: &'a [u8; MOST_FORMULAS],
     lefts: &'a [u8; MOST_FORMULAS],
     rights: &'a [u8; MOST_FORMULAS],
@@ -55,7 +60,8 @@ fn evaluated<'a>(
     requestor: u8,
     f: usize,
 ) -> Memo
-    requires { ⌜ («edge_count» ≤ mostEdges) × (f < mostFormulas) ⌝ }
+    requires { ⌜ Indexed «edge_count» (now labels) (now sources) (now targets) (now firsts) (now counts) (now places)
+        × (f < mostFormulas) ⌝ }
     ensures { λ r. ⌜ r ≡ memos.evaluated (truthIn (contextOf roles object requestor
         (edgesIn «edge_count» (now (labels .entry)) (now (sources .entry)) (now (targets .entry))))
         (formulasIn (now (ops .entry)) (now (lefts .entry)) (now (rights .entry)))) memo f ⌝ }
@@ -68,6 +74,9 @@ fn evaluated<'a>(
         labels,
         sources,
         targets,
+        firsts,
+        counts,
+        places,
         ops,
         lefts,
         rights,
@@ -120,6 +129,9 @@ pub fn evaluated_all<'a>(
     labels: &'a [u8; MOST_EDGES],
     sources: &'a [u8; MOST_EDGES],
     targets: &'a [u8; MOST_EDGES],
+    firsts: &'a [u16; LABEL_COUNT],
+    counts: &'a [u16; LABEL_COUNT],
+    places: &'a [u16; MOST_EDGES],
     ops: &'a [u8; MOST_FORMULAS],
     lefts: &'a [u8; MOST_FORMULAS],
     rights: &'a [u8; MOST_FORMULAS],
@@ -129,7 +141,8 @@ pub fn evaluated_all<'a>(
     object: u8,
     requestor: u8,
 ) -> Memo
-    requires { ⌜ («edge_count» ≤ mostEdges) × FormulasFit count (now formulas) ⌝ }
+    requires { ⌜ Indexed «edge_count» (now labels) (now sources) (now targets) (now firsts) (now counts) (now places)
+        × FormulasFit count (now formulas) ⌝ }
     ensures { λ r. ⌜ ((rules : records.Record) → Principals count (now (formulas .entry)) rules
         → r ≡ evaluatedAll (truthIn (contextOf roles object requestor
         (edgesIn «edge_count» (now (labels .entry)) (now (sources .entry)) (now (targets .entry))))
@@ -145,6 +158,9 @@ pub fn evaluated_all<'a>(
             labels,
             sources,
             targets,
+            firsts,
+            counts,
+            places,
             ops,
             lefts,
             rights,
@@ -199,6 +215,9 @@ pub fn weigh<'a>(
     labels: &'a [u8; MOST_EDGES],
     sources: &'a [u8; MOST_EDGES],
     targets: &'a [u8; MOST_EDGES],
+    firsts: &'a [u16; LABEL_COUNT],
+    counts: &'a [u16; LABEL_COUNT],
+    places: &'a [u16; MOST_EDGES],
     ops: &'a [u8; MOST_FORMULAS],
     lefts: &'a [u8; MOST_FORMULAS],
     rights: &'a [u8; MOST_FORMULAS],
@@ -209,7 +228,8 @@ pub fn weigh<'a>(
     requestor: u8,
     c: u32,
 ) -> Tried
-    requires { ⌜ («edge_count» ≤ mostEdges) × FormulasFit count (now formulas) ⌝ }
+    requires { ⌜ Indexed «edge_count» (now labels) (now sources) (now targets) (now firsts) (now counts) (now places)
+        × FormulasFit count (now formulas) ⌝ }
     ensures { λ r. ⌜ ((rules : records.Record) → Principals count (now (formulas .entry)) rules
         → weighedOf r ≡ tried (truthIn (contextOf roles object requestor
         (edgesIn «edge_count» (now (labels .entry)) (now (sources .entry)) (now (targets .entry))))
@@ -228,6 +248,9 @@ pub fn weigh<'a>(
                 labels,
                 sources,
                 targets,
+                firsts,
+                counts,
+                places,
                 ops,
                 lefts,
                 rights,

@@ -1,4 +1,3 @@
-mod Shifts
 mod EdgeRows
 mod Columns
 mod Answers

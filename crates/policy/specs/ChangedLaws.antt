@@ -14,10 +14,10 @@ use Rattle.common.specs.BoolLaws.{and-cases, and-both}
 use Rattle.policy.specs.declared.Record.{Record}
 use Rattle.policy.specs.declared.Memo.{Memo}
 use Rattle.policy.specs.Table.{Kind, head, user, edge, formula, demarcation, hierarchy, principal, exclusion, prerequisite, method}
-use Rattle.policy.specs.Table.{end, kinds, count, columns, room, row, rows, column, changed}
+use Rattle.policy.specs.Table.{end, kinds, count, columns, room, row, rows, column, indexOf, changed}
 use Rattle.policy.specs.Rows.{inRange, rowCauses, rowRefusal}
-use Rattle.policy.specs.Loadable.{zeroFrom, tableLoads, loadable}
-use Rattle.policy.specs.LoadableLaws.{loadable-table, noCircles}
+use Rattle.policy.specs.Loadable.{zeroFrom, tableLoads, noCircles, indexAgrees, loadable}
+use Rattle.policy.specs.LoadableLaws.{loadable-table, same-index}
 use Rattle.policy.specs.EdgeLaws.{Rising, none, more, rising-edges}
 
 -- edges go into columns and come back
@@ -80,8 +80,13 @@ module _ (r : Record) (es : List (List ℕ)) (m : Memo) where
     table-changed method = kept method refl refl refl (λ i. refl)
     table-changed end = kept end refl refl refl (λ i. refl)
 
+    -- the index is that of the new edges
+    index-changed : indexAgrees (changed r es m) ≡ true
+    unfolding indexAgrees changed
+    index-changed = rw (rows-changed rising) (same-index (indexOf es))
+
     pub loadable-changed : loadable (changed r es m) ≡ true
     unfolding loadable changed
     loadable-changed =
         and-both _ _ (every-all (tableLoads (changed r es m)) kinds table-changed)
-        (and-cases (every (tableLoads r) kinds) (noCircles r) loads .1)
+        (and-both _ _ (and-cases (noCircles r) _ (and-cases (every (tableLoads r) kinds) _ loads .1) .0) index-changed)

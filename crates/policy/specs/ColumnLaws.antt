@@ -15,10 +15,11 @@ use Rattle.policy.specs.declared.Record.{Record}
 use Rattle.policy.specs.declared.Memo.{Memo}
 use Rattle.policy.specs.Table.{edge, row, rows, column, withEdges, changed, withMemo}
 use Rattle.policy.specs.Loadable.{zeroFrom, loadable}
-use Rattle.policy.specs.LoadableLaws.{loadable-table, table-few, table-zero}
+use Rattle.policy.specs.LoadableLaws.{loadable-table, own-index, table-few, table-zero}
 use Rattle.policy.specs.TableLaws.{ColumnLengths}
 
-zeros : (c : List ℕ) → every (λ x. eqb x 0) c ≡ true → c ≡ replicate (length c) 0
+-- zeros alone
+pub zeros : (c : List ℕ) → every (λ x. eqb x 0) c ≡ true → c ≡ replicate (length c) 0
 zeros [] e = refl
 zeros (x ∷ c) e = let p = and-cases (eqb x 0) _ e in λ j. eqb-true x 0 (p .0) j ∷ zeros c (p .1) j
 
@@ -52,7 +53,7 @@ module _ (r : Record) (loads : loadable r ≡ true) where
   pub targets-column : length (r .«edge_targets») ≡ mostEdges → r .«edge_targets» ≡ column 2 (rows edge r)
   targets-column size = column-of (r .«edge_count») 2 _ (r .«edge_targets») (λ i. refl) size few (zero-parts .2)
 
--- a loadable record with its own edges again: only the memo is another
+-- a loadable record with its own edges again: only the memo is another (its index is that of its edges)
 pub own-edges : (r : Record) (m : Memo) → ColumnLengths r → loadable r ≡ true → changed r (rows edge r) m ≡ withMemo r m
 unfolding changed withMemo
 own-edges r m s loads =
@@ -60,4 +61,4 @@ own-edges r m s loads =
     let a = labels-column r loads (s .long edge .0) in
     let b = sources-column r loads (s .long edge .1 .0) in
     let c = targets-column r loads (s .long edge .1 .1 .0) in
-    sym (λ j. withEdges r (sym n j) (a j) (b j) (c j) m)
+    sym (λ j. withEdges r (sym n j) (a j) (b j) (c j) (own-index r loads j) m)

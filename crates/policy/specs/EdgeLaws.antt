@@ -33,7 +33,7 @@ rising-from (more l r t) h = more (le-trans h l) r t
 
 -- ---- keys
 
-in-range-parts : (n l x y : ℕ) → edgeInRange n l x y ≡ true → (l ≤ highestLabel) × (x < n) × (y < n)
+pub in-range-parts : (n l x y : ℕ) → edgeInRange n l x y ≡ true → (l ≤ highestLabel) × (x < n) × (y < n)
 in-range-parts n l x y e =
     let p = and-cases (leb l highestLabel) _ e in
     let q = and-cases (ltb x n) _ (p .1) in

@@ -17,6 +17,7 @@ pub mod EdgeLaws
 pub mod EdgeRows
 pub mod ChangedLaws
 pub mod ColumnLaws
+pub mod RecordIndexLaws
 pub mod EditLaws
 pub mod NamedLaws
 pub mod ColumnLengthLaws

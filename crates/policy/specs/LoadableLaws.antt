@@ -1,6 +1,7 @@
 -- Laws of `Loadable`: a record's tables by their columns, and the parts of `loadable`.
 use Prim.Native.Nat.{ℕ, zero, suc, _≤_, _<_}
 use mathlib.Core.Path.{_≡_, refl, sym, _∙_, ap}
+use mathlib.Core.Logic.{_↔_}
 use mathlib.Core.Bool.{Bool, true, false, not, _&&_}
 use mathlib.Core.List.{[], _∷_}
 use native.Mathlib.Omega.{arith}
@@ -8,18 +9,19 @@ use lib.ListN.{getD}
 use lib.Dec.{ltb, leb}
 use borrow.Author.Tests.{ltb-true, ltb-false, leb-true, le-leb}
 use Rattle.common.specs.Limits.{mostObjects}
-use Rattle.common.specs.Lists.{every}
-use Rattle.common.specs.ListLaws.{every-at}
-use Rattle.common.specs.BoolLaws.{and-cases, and-false}
+use Rattle.common.specs.Lists.{every, same}
+use Rattle.common.specs.ListLaws.{every-at, same-self, same-is}
+use Rattle.common.specs.BoolLaws.{and-cases, and-both, and-false}
 use Rattle.closure.specs.Closure.{circular}
+use Rattle.edge_index.specs.declared.EdgeIndex.{EdgeIndex}
 use Rattle.policy.specs.declared.Record.{Record}
 use Rattle.policy.specs.Table.{Kind, head, user, edge, formula, demarcation, hierarchy, principal, exclusion, prerequisite, method}
-use Rattle.policy.specs.Table.{end, kinds, count, columns, room, row, rows}
+use Rattle.policy.specs.Table.{end, kinds, count, columns, room, row, rows, indexOf}
 use Rattle.policy.specs.Rows.{inRange, rowCauses, rowRefusal}
 use Rattle.tables.specs.Loads.{linesLoad, usersLoad, edgesLoad, formulasLoad, demarcationsLoad, pairsLoad, principalsLoad, exclusionsLoad}
 use Rattle.tables.specs.Loads.{methodsLoad}
 use Rattle.tables.specs.LoadsLaws.{in-range}
-use Rattle.policy.specs.Loadable.{zeroFrom, rowsLoad, tableLoads, loadable}
+use Rattle.policy.specs.Loadable.{zeroFrom, rowsLoad, tableLoads, noCircles, sameIndex, indexAgrees, loadable}
 
 -- ---- the tables by their columns (`tables/specs/Loads.antt`)
 
@@ -77,9 +79,6 @@ module _ (r : Record) where
 
 -- ---- the parts of `loadable`
 
-abbrev pub noCircles : Record → Bool
-noCircles r = not (circular (rows hierarchy r)) && not (circular (rows prerequisite r))
-
 -- kinds 02 to 04; kinds 05 to 0A, with the circles of the two relations
 abbrev pub graphLoads : Record → Bool
 graphLoads r = tableLoads r user && (tableLoads r edge && tableLoads r formula)
@@ -112,12 +111,18 @@ module _ (r : Record) where
       go true e = sym (head-some (ltb-true 0 (r .objects) e) h)
       go false e = sym (head-none (let l = ltb-false 0 (r .objects) e in omega arith))
 
-  pub loadable-parts : r .objects ≤ mostObjects → ltb 0 (r .objects) && (graphLoads r && groundsLoad r) ≡ loadable r
+  -- the kinds and the circles, then the index
+  pub loadable-parts : r .objects ≤ mostObjects → (ltb 0 (r .objects) && (graphLoads r && groundsLoad r)) && indexAgrees r ≡ loadable r
   unfolding loadable
   loadable-parts h =
-      ap (λ (b : Bool). b && (graphLoads r && groundsLoad r)) (head-test h)
-      ∙ first-kinds (tableLoads r head) (tableLoads r user) (tableLoads r edge) (tableLoads r formula)
+      ap (λ (b : Bool). (b && (graphLoads r && groundsLoad r)) && indexAgrees r) (head-test h)
+      ∙ ap (λ (b : Bool). b && indexAgrees r) (first-kinds (tableLoads r head) (tableLoads r user) (tableLoads r edge) (tableLoads r formula))
+      ∙ and-assoc (every (tableLoads r) kinds) (noCircles r) (indexAgrees r)
     where
+      and-assoc : (a b c : Bool) → (a && b) && c ≡ a && (b && c)
+      and-assoc true b c = refl
+      and-assoc false b c = refl
+
       later-kinds : (d i p x q m a b : Bool)
           → (d && (p && (x && m))) && ((i && a) && (q && b)) ≡ (d && (i && (p && (x && (q && (m && true)))))) && (a && b)
       later-kinds false i p x q m a b = refl
@@ -153,10 +158,33 @@ pub table-few : (r : Record) (k : Kind) → tableLoads r k ≡ true → count k 
 unfolding tableLoads
 table-few r k e = leb-true (count k r) (room k) (and-cases (leb (count k r) (room k)) _ e .0)
 
--- a record whose tables load, and which has no circles, is loadable
-pub loadable-from : (r : Record) → ((j : Kind) → tableLoads r j ≡ true) → noCircles r ≡ true → loadable r ≡ true
+-- ---- the index
+
+-- an index is the same as itself
+pub same-index : (x : EdgeIndex) → sameIndex x x ≡ true
+same-index x = and-both _ _ (same-self (x .firsts)) (and-both _ _ (same-self (x .counts)) (same-self (x .places)))
+
+-- the test says that the index is that of the record's edges
+pub index-agrees : (r : Record) → (indexAgrees r ≡ true) ↔ (r .index ≡ indexOf (rows edge r))
+unfolding indexAgrees
+index-agrees r = (says, λ e. ap (λ (x : EdgeIndex). sameIndex x (indexOf (rows edge r))) e ∙ same-index (indexOf (rows edge r)))
+  where
+    says : sameIndex (r .index) (indexOf (rows edge r)) ≡ true → r .index ≡ indexOf (rows edge r)
+    says e =
+        let x = indexOf (rows edge r) in
+        let p = and-cases (same (r .index .firsts) (x .firsts)) _ e in
+        let q = and-cases (same (r .index .counts) (x .counts)) _ (p .1) in
+        let a = same-is (r .index .firsts) (x .firsts) (p .0) in
+        let b = same-is (r .index .counts) (x .counts) (q .0) in
+        let c = same-is (r .index .places) (x .places) (q .1) in
+        λ j. record { firsts = a j; counts = b j; places = c j }
+
+-- ---- loadable records
+
+-- a record whose tables load, which has no circles, and whose index is that of its edges, is loadable
+pub loadable-from : (r : Record) → ((j : Kind) → tableLoads r j ≡ true) → noCircles r ≡ true → indexAgrees r ≡ true → loadable r ≡ true
 unfolding loadable
-loadable-from r loads c =
+loadable-from r loads c x =
     rw (
       loads head,
       loads user,
@@ -166,10 +194,9 @@ loadable-from r loads c =
       loads hierarchy,
       loads principal,
       loads exclusion,
-      loads
-          prerequisite,
+      loads prerequisite,
       loads method,
-    ) c
+    ) (and-both _ _ c x)
 
 -- each of its lines is one that loading takes, and its unused places are zero
 pub table-rows : (r : Record) (k : Kind) → tableLoads r k ≡ true → rowsLoad r k (count k r) ≡ true
@@ -200,6 +227,14 @@ loadable-table r e k = go k
     go prerequisite = nth 8 (omega arith)
     go method = nth 9 (omega arith)
     go end = end-loads r
+
+-- its index is that of its edges
+pub loadable-index : (r : Record) → loadable r ≡ true → indexAgrees r ≡ true
+unfolding loadable
+loadable-index r e = and-cases (noCircles r) _ (and-cases (every (tableLoads r) kinds) _ e .1) .1
+
+pub own-index : (r : Record) → loadable r ≡ true → r .index ≡ indexOf (rows edge r)
+own-index r e = index-agrees r .0 (loadable-index r e)
 
 -- and there are at most 255 objects
 pub loadable-objects : (r : Record) → loadable r ≡ true → r .objects ≤ mostObjects

@@ -5,8 +5,10 @@ use mathlib.Core.List.{List, [], _∷_, _++_, map}
 use lib.ListN.{length, set, replicate}
 use lib.Dec.{eqb}
 use Rattle.common.specs.Limits.{mostUsers, mostEdges, mostFormulas, mostDemarcations, mostPrincipals, mostMethods, mostPairs}
-use Rattle.common.specs.Limits.{mostExclusions}
+use Rattle.common.specs.Limits.{mostExclusions, labelCount}
 use Rattle.common.specs.Lists.{at, table}
+use Rattle.edge_index.specs.declared.EdgeIndex.{EdgeIndex}
+pub use Rattle.edge_index.specs.Index.{column, indexOf}
 use Rattle.policy.specs.declared.Record.{Record}
 use Rattle.policy.specs.declared.Memo.{Memo}
 
@@ -122,6 +124,10 @@ edgesOf n labels sources targets = table n (λ i. at labels i ∷ at sources i �
 unfoldable pub emptied : ℕ → ℕ → Memo
 emptied o s = record { object = o; requestor = s; known = replicate mostFormulas false; value = replicate mostFormulas false }
 
+-- the index of no edges
+unfoldable pub noIndex : EdgeIndex
+noIndex = record { firsts = replicate labelCount 0; counts = replicate labelCount 0; places = replicate mostEdges 0 }
+
 -- the blank record: one object and nothing else
 unfoldable pub blank : Record
 blank =
@@ -155,6 +161,7 @@ blank =
       «method_count» = 0;
       «method_forms» = replicate mostMethods 0;
       «method_privileges» = replicate mostMethods 0;
+      index = noIndex;
       memo = emptied 0 0;
     }
 
@@ -198,16 +205,13 @@ appended k r v =
       «method_count» = more k method r;
       «method_forms» = put k method r (r .«method_forms») (at v 0);
       «method_privileges» = put k method r (r .«method_privileges») (at v 1);
+      index = r .index;
       memo = r .memo;
     }
 
--- column j of the edges es, with the unused places zero
-abbrev pub column : ℕ → List (List ℕ) → List ℕ
-column j es = map (λ e. at e j) es ++ replicate (mostEdges - length es) 0
-
--- the record with these fields of the edges, and this memo
-abbrev pub withEdges : Record → ℕ → List ℕ → List ℕ → List ℕ → Memo → Record
-withEdges r n labels sources targets m =
+-- the record with these fields of the edges, this index, and this memo
+abbrev pub withEdges : Record → ℕ → List ℕ → List ℕ → List ℕ → EdgeIndex → Memo → Record
+withEdges r n labels sources targets x m =
     record {
       objects = r .objects;
       «user_count» = r .«user_count»;
@@ -238,13 +242,21 @@ withEdges r n labels sources targets m =
       «method_count» = r .«method_count»;
       «method_forms» = r .«method_forms»;
       «method_privileges» = r .«method_privileges»;
+      index = x;
       memo = m;
     }
 
--- the record with these edges, in this order, and this memo
+-- the record with these edges, in this order, their index, and this memo
 unfoldable pub changed : Record → List (List ℕ) → Memo → Record
-changed r es m = withEdges r (length es) (column 0 es) (column 1 es) (column 2 es) m
+changed r es m = withEdges r (length es) (column 0 es) (column 1 es) (column 2 es) (indexOf es) m
 
 -- the record with this memo
 unfoldable pub withMemo : Record → Memo → Record
-withMemo r m = withEdges r (r .«edge_count») (r .«edge_labels») (r .«edge_sources») (r .«edge_targets») m
+withMemo r m = withEdges r (r .«edge_count») (r .«edge_labels») (r .«edge_sources») (r .«edge_targets») (r .index) m
+
+-- the record with this index; with that of its own edges, built anew
+unfoldable pub withIndex : Record → EdgeIndex → Record
+withIndex r x = withEdges r (r .«edge_count») (r .«edge_labels») (r .«edge_sources») (r .«edge_targets») x (r .memo)
+
+abbrev pub indexed : Record → Record
+indexed r = withIndex r (indexOf (rows edge r))

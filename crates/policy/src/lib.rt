@@ -2,6 +2,7 @@
 
 ghost use mathlib.Core.Path.{_≡_};
 ghost use Rattle.policy.specs.Table as table;
+use common::LABEL_COUNT;
 use common::MOST_DEMARCATIONS;
 use common::MOST_EDGES;
 use common::MOST_EXCLUSIONS;
@@ -10,6 +11,7 @@ use common::MOST_METHODS;
 use common::MOST_PAIRS;
 use common::MOST_PRINCIPALS;
 use common::MOST_USERS;
+use edge_index::EdgeIndex;
 
 mod edges;
 pub mod edits;
@@ -68,6 +70,8 @@ pub struct Record {
     pub method_count: usize,
     pub method_forms: [u8; MOST_METHODS],
     pub method_privileges: [u64; MOST_METHODS],
+    // The edges by label, and by label, to, from.
+    pub index: EdgeIndex,
     // What earlier questions evaluated.
     pub memo: Memo,
 }
@@ -90,10 +94,22 @@ pub fn emptied(object: u8, requestor: u8) -> Memo
     }
 }
 
+// The index of no edges.
+fn no_index() -> EdgeIndex
+    ensures { λ r. ⌜ r ≡ table.noIndex ⌝ }
+{
+    EdgeIndex {
+        firsts: [0; LABEL_COUNT],
+        counts: [0; LABEL_COUNT],
+        places: [0; MOST_EDGES],
+    }
+}
+
 // The blank record: one object and nothing else.
 pub fn blank() -> Record
     ensures { λ r. ⌜ r ≡ table.blank ⌝ }
 {
+    let index = no_index();
     let memo = emptied(0, 0);
     Record {
         objects: 1,
@@ -125,6 +141,7 @@ pub fn blank() -> Record
         method_count: 0,
         method_forms: [0; MOST_METHODS],
         method_privileges: [0; MOST_METHODS],
+        index: index,
         memo: memo,
     }
 }

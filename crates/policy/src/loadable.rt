@@ -28,7 +28,7 @@ pub fn has_circles(rules: Record) -> bool
     ranks | needs
 }
 
-// Every table loads, and neither the hierarchy nor the prerequisites hold a circle.
+// Every table loads, neither the hierarchy nor the prerequisites hold a circle, and the index is that of the edges.
 pub fn loadable(rules: Record) -> bool
     ensures { λ r. ⌜ Tests rules r ⌝ }
 {
@@ -66,5 +66,17 @@ pub fn loadable(rules: Record) -> bool
         &rules.method_forms,
         &rules.method_privileges,
     );
-    (0 < rules.objects) & (graph & grounds)
+    if !graph {
+        return false;
+    }
+    let indexed = edge_index::agrees(
+        rules.edge_count,
+        &rules.edge_labels,
+        &rules.edge_sources,
+        &rules.edge_targets,
+        &rules.index.firsts,
+        &rules.index.counts,
+        &rules.index.places,
+    );
+    ((0 < rules.objects) & grounds) & indexed
 }

@@ -7,8 +7,6 @@ ghost use Rattle.common.specs.Limits.{mostPrincipals};
 ghost use Rattle.common.specs.Lists.{at};
 ghost use Rattle.common.specs.Sets.{In};
 ghost use Rattle.search.specs.Steps.{MetBy};
-ghost use Rattle.policy.specs.Table.{Kind};
-ghost use Rattle.policy.specs.Loadable.{tableLoads};
 ghost use Rattle.policy.specs.Loadable as validity;
 ghost use Rattle.policy.specs.Typed.{Typed};
 ghost use Rattle.justification.specs.Predicates.{isEnabled};
@@ -43,7 +41,7 @@ fn meeting(n: usize, grants: [u64; MOST_PRINCIPALS], every: bool, wanted: u64) -
 
 // The enabled principals of those in `among`; no other formula is evaluated.
 pub fn enabled_of(rules: Record, question: Question, among: u32) -> u32
-    requires { ⌜ ((j : Kind) → tableLoads rules j ≡ true) ⌝ }
+    requires { ⌜ validity.loadable rules ≡ true ⌝ }
     ensures { λ r. ⌜ Those (rules .«principal_count») (λ p. (In p among) × (isEnabled rules question p ≡ true)) r ⌝ }
 {
     let n = rules.principal_count;
@@ -67,6 +65,9 @@ pub fn enabled_of(rules: Record, question: Question, among: u32) -> u32
                 &rules.edge_labels,
                 &rules.edge_sources,
                 &rules.edge_targets,
+                &rules.index.firsts,
+                &rules.index.counts,
+                &rules.index.places,
                 &rules.formula_ops,
                 &rules.formula_lefts,
                 &rules.formula_rights,

@@ -47,6 +47,7 @@ appendedAt k i r v =
       «method_count» = more k method i r;
       «method_forms» = put k method i (r .«method_forms») (at v 0);
       «method_privileges» = put k method i (r .«method_privileges») (at v 1);
+      index = r .index;
       memo = r .memo;
     }
 

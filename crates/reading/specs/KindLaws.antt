@@ -17,6 +17,7 @@ use Rattle.policy.specs.TableLaws.{same-kind, ColumnLengths, count-other, colum
 use Rattle.policy.specs.TableLaws as tables
 use Rattle.policy.specs.GrowthLaws.{blank-empty}
 use Rattle.policy.specs.RoomLaws.{room-left}
+use Rattle.policy.specs.MemoLaws.{rows-indexed}
 use Rattle.reading.specs.declared.Loaded.{Loaded}
 use Rattle.policy.specs.Table.{widths}
 use Rattle.reading.specs.Body.{values, numbers, linesOf}
@@ -89,7 +90,7 @@ module _ (j : Kind) (low : 1 < code j) (high : code j < 0xFF) where
   read-rows : {ls : List Framed} → Lines ls → (t : Reading) → Sound t → read t ls .number ≡ 0
       → rows j (read t ls .rules) ≡ rows j (t .rules) ++ linesOf j ls
   unfolding read
-  read-rows none t s e = ap (rows j) (end-taken t e .1) ∙ sym (append-nil (rows j (t .rules)))
+  read-rows none t s e = ap (rows j) (end-taken t e .1) ∙ rows-indexed (t .rules) j ∙ sym (append-nil (rows j (t .rules)))
   read-rows (more (refused-line l u) p) t s e = absurd (omega arith)
   read-rows (more {ls = ls} (octets-line {os} f) p) t s e =
       let k = kindOf (kindOctet os) in

@@ -11,7 +11,7 @@ use Rattle.common.specs.Refusals as refusals
 use Rattle.closure.specs.Closure.{circular}
 use Rattle.octets.specs.Line.{Framed, refused, octets, kindOctet, bodyOf, total, lines}
 use Rattle.policy.specs.declared.Record.{Record}
-use Rattle.policy.specs.Table.{Kind, head, hierarchy, prerequisite, end, code, isKind, count, rows, blank, appended, kindOf}
+use Rattle.policy.specs.Table.{Kind, head, hierarchy, prerequisite, end, code, isKind, count, rows, blank, appended, indexed, kindOf}
 use Rattle.policy.specs.Rows.{rowCauses}
 use Rattle.reading.specs.declared.Loaded.{Loaded}
 use Rattle.policy.specs.Table.{widths}
@@ -58,12 +58,13 @@ afterLine t k os =
 abbrev pub notLoaded : ℕ → ℕ → Loaded
 notLoaded n line = record { number = n; line = line; rules = blank }
 
--- all lines passed. 8: the end line is missing (line: one past the last). 9: a circle, in the hierarchy or the prerequisites
+-- all lines passed. 8: the end line is missing (line: one past the last). 9: a circle, in the hierarchy or the prerequisites.
+-- Request 2026-04, "Loading builds this": the record has the index of its edges
 unfoldable pub afterLastLine : Reading → Loaded
 afterLastLine t =
     cond (not (eqb (t .last) 0xFF)) (notLoaded wrongEnd (t .lines + 1))
     (cond (circular (rows hierarchy (t .rules)) || circular (rows prerequisite (t .rules))) (notLoaded refusals.circle (t .lines))
-    (record { number = 0; line = 0; rules = t .rules }))
+    (record { number = 0; line = 0; rules = indexed (t .rules) }))
 
 unfoldable pub read : Reading → List Framed → Loaded
 read t [] = afterLastLine t

@@ -15,11 +15,14 @@ use Rattle.common.specs.Refusals as refusals
 use Rattle.octets.specs.Line.{Framed, refused, octets, kindOctet, bodyOf, total, lines}
 use Rattle.closure.specs.Closure.{circular}
 use Rattle.policy.specs.declared.Record.{Record}
-use Rattle.policy.specs.Table.{Kind, code, kindOf, isKind, count, rows, emptied, blank, appended}
+use Rattle.policy.specs.Table.{Kind, code, kindOf, isKind, count, rows, emptied, noIndex, blank, appended, withIndex, indexed}
 use Rattle.policy.specs.Table.{head, user, edge, formula, demarcation, hierarchy, principal, exclusion, prerequisite, method, end}
 use Rattle.policy.specs.Rows.{rowCauses, rowRefusal}
 use Rattle.policy.specs.Loadable.{tableLoads, loadable}
-use Rattle.policy.specs.LoadableLaws.{loadable-from}
+use Rattle.policy.specs.LoadableLaws.{loadable-from, index-agrees}
+use Rattle.policy.specs.MemoLaws.{indexed-loadable}
+use Rattle.policy.specs.ColumnLengthLaws.{sized-index}
+use Rattle.edge_index.specs.Index.{indexIn}
 use Rattle.policy.specs.TableLaws.{ColumnLengths, blank-loads, sized-blank, sized-appended, count-other}
 use Rattle.policy.specs.GrowthLaws.{tables-more, tables-first, blank-empty}
 use Rattle.reading.specs.declared.Loaded.{Loaded}
@@ -165,7 +168,7 @@ abbrev Gives : Loaded → Type 0
 Gives a = a .number ≡ 0 → AsLoaded (a .rules)
 
 end-loaded : (t : Reading) → Sound t → Gives (afterLastLine t)
-unfolding afterLastLine
+unfolding afterLastLine withIndex
 end-loaded t s = go (eqb (t .last) 0xFF) (circular (rows hierarchy (t .rules))) (circular (rows prerequisite (t .rules))) refl refl refl
   where
     not-top : t .last ≡ 0xFF → t .lines ≢ 0
@@ -174,17 +177,21 @@ end-loaded t s = go (eqb (t .last) 0xFF) (circular (rows hierarchy (t .rules))) 
     go : (x y z : Bool) → eqb (t .last) 0xFF ≡ x → circular (rows hierarchy (t .rules)) ≡ y → circular (rows prerequisite (t .rules)) ≡ z
         → Gives
         (cond (not x) (notLoaded wrongEnd (t .lines + 1))
-        (cond (y || z) (notLoaded refusals.circle (t .lines)) (record { number = 0; line = 0; rules = t .rules })))
+        (cond (y || z) (notLoaded refusals.circle (t .lines)) (record { number = 0; line = 0; rules = indexed (t .rules) })))
     go false y z p q u n = absurd (omega arith)
     go true true z p q u n = absurd (omega arith)
     go true false true p q u n = absurd (omega arith)
     go true false false p q u n =
-        record { loads = loadable-from (t .rules) (s .loads (not-top (eqb-true _ _ p))) (rw (q, u)); memo = s .memo; sized = s .sized }
+        record {
+          loads = indexed-loadable (t .rules) (s .loads (not-top (eqb-true _ _ p))) (rw (q, u));
+          memo = s .memo;
+          sized = sized-index (t .rules) _ (s .sized);
+        }
 
 -- the blank record, which a refusal hands back, is one of them
 blank-loaded : AsLoaded blank
-unfolding blank circular
-blank-loaded = record { loads = loadable-from blank blank-loads refl; memo = refl; sized = sized-blank }
+unfolding blank noIndex indexIn circular
+blank-loaded = record { loads = loadable-from blank blank-loads refl (index-agrees blank .1 refl); memo = refl; sized = sized-blank }
 
 read-loaded : (ls : List Framed) (t : Reading) → Sound t → Gives (read t ls)
 unfolding read

@@ -10,7 +10,7 @@ use Rattle.common.specs.Refusals as refusals
 use Rattle.closure.specs.Closure.{circular}
 use Rattle.octets.specs.Line.{Framed, refused, octets, kindOctet, total, frame, lines}
 use Rattle.policy.specs.declared.Record.{Record}
-use Rattle.policy.specs.Table.{Kind, user, hierarchy, prerequisite, code, count, rows, kindOf}
+use Rattle.policy.specs.Table.{Kind, user, hierarchy, prerequisite, code, count, rows, indexed, kindOf}
 use Rattle.policy.specs.LinesBefore.{linesBefore, following}
 use Rattle.policy.specs.TableLaws.{ColumnLengths}
 use Rattle.policy.specs.Loadable.{tableLoads}
@@ -35,11 +35,12 @@ abbrev pub refusedAt : Cursor → ℕ → Record → Stage
 refusedAt c n r =
     record { cursor = record { number = n; offset = c .offset; lines = c .lines + 1; last = c .last; sum = c .sum }; rules = r }
 
--- what loading answers after an end line, the last of n lines: a further line is refused; else circles are looked for
+-- what loading answers after an end line, the last of n lines: a further line is refused; else circles are looked for, and the index is
+-- built
 abbrev pub afterEnd : ℕ → Record → List Framed → Loaded
 afterEnd n r [] =
     cond (circular (rows hierarchy r) || circular (rows prerequisite r)) (notLoaded refusals.circle n)
-    (record { number = 0; line = 0; rules = r })
+    (record { number = 0; line = 0; rules = indexed r })
 afterEnd n r (refused k ∷ ls) = notLoaded k (n + 1)
 afterEnd n r (octets os ∷ ls) = notLoaded wrongKind (n + 1)
 

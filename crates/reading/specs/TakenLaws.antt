@@ -10,7 +10,7 @@ use Rattle.common.specs.Refusals.{wrongEnd}
 use Rattle.common.specs.Refusals as refusals
 use Rattle.closure.specs.Closure.{circular}
 use Rattle.octets.specs.Line.{Framed, octets, kindOctet}
-use Rattle.policy.specs.Table.{hierarchy, prerequisite, kindOf, rows}
+use Rattle.policy.specs.Table.{hierarchy, prerequisite, kindOf, rows, indexed}
 use Rattle.reading.specs.declared.Loaded.{Loaded}
 use Rattle.reading.specs.Loading.{Reading, lineRefusal, afterLine, notLoaded, afterLastLine, read}
 
@@ -27,19 +27,19 @@ read-taken t os ls e₀ = go (eqb (lineRefusal t (kindOf (kindOctet os)) os) 0) 
     go true p l e = (eqb-true _ _ p, refl)
     go false p l e = absurd (eqb-false _ _ p e)
 
--- after the last line: the end line was read, and the record is handed over
-pub end-taken : (t : Reading) → afterLastLine t .number ≡ 0 → (t .last ≡ 0xFF) × (afterLastLine t .rules ≡ t .rules)
+-- after the last line: the end line was read, and the record is handed over with its index
+pub end-taken : (t : Reading) → afterLastLine t .number ≡ 0 → (t .last ≡ 0xFF) × (afterLastLine t .rules ≡ indexed (t .rules))
 unfolding afterLastLine
 end-taken t = go (eqb (t .last) 0xFF) (circular (rows hierarchy (t .rules)) || circular (rows prerequisite (t .rules))) refl
   where
     go : (x y : Bool) → eqb (t .last) 0xFF ≡ x
         → cond (not x) (notLoaded wrongEnd (t .lines + 1))
-        (cond y (notLoaded refusals.circle (t .lines)) (record { number = 0; line = 0; rules = t .rules })) .number
+        (cond y (notLoaded refusals.circle (t .lines)) (record { number = 0; line = 0; rules = indexed (t .rules) })) .number
         ≡ 0
         → (t .last ≡ 0xFF)
         × (cond (not x) (notLoaded wrongEnd (t .lines + 1))
-        (cond y (notLoaded refusals.circle (t .lines)) (record { number = 0; line = 0; rules = t .rules })) .rules
-        ≡ t .rules)
+        (cond y (notLoaded refusals.circle (t .lines)) (record { number = 0; line = 0; rules = indexed (t .rules) })) .rules
+        ≡ indexed (t .rules))
     go false y p n = absurd (omega arith)
     go true true p n = absurd (omega arith)
     go true false p n = (eqb-true _ _ p, refl)

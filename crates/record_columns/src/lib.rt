@@ -2,10 +2,12 @@
 // this; they need not be such as a bundle loads to.
 // A column is two digits: the kind of its lines, and which number of such a line. 30 is an edge's label, 31 its source, 32 its target, A0 a
 // method's form. 9 is the count of the lines: 39 that of edges. 10 is the count of objects. B is the memo: B0 its object, B1 its requestor,
-// B2 what is known, B3 the values. A row past the end of its table counts on from the start.
+// B2 what is known, B3 the values. C is the index: C0 first places, C1 numbers of edges, C2 places. A row past the end of its table counts
+// on from the start.
 
 pub mod print;
 
+use common::LABEL_COUNT;
 use common::MOST_DEMARCATIONS;
 use common::MOST_EDGES;
 use common::MOST_EXCLUSIONS;
@@ -14,6 +16,7 @@ use common::MOST_METHODS;
 use common::MOST_PAIRS;
 use common::MOST_PRINCIPALS;
 use common::MOST_USERS;
+use edge_index::EdgeIndex;
 use policy::Memo;
 use policy::Record;
 
@@ -55,10 +58,23 @@ fn with_memo(mut memo: Memo, column: u8, row: usize, value: u8) -> Memo {
     memo
 }
 
-// The record with roles, privileges or a number of its memo set, where the column is one of these.
+// The index with one of its numbers set, where the column is its own.
+fn with_index(mut index: EdgeIndex, column: u8, row: usize, value: u8) -> EdgeIndex {
+    match column {
+        0xC0 => index.firsts[row % LABEL_COUNT] = value as u16,
+        0xC1 => index.counts[row % LABEL_COUNT] = value as u16,
+        0xC2 => index.places[row % MOST_EDGES] = value as u16,
+        _ => {}
+    }
+    index
+}
+
+// The record with roles, privileges or a number of its memo or index set, where the column is one of these.
 fn with_other(mut rules: Record, column: u8, row: usize, value: u8) -> Record {
     let memo = with_memo(rules.memo, column, row, value);
     rules.memo = memo;
+    let index = with_index(rules.index, column, row, value);
+    rules.index = index;
     match column {
         0x21 => rules.user_roles[row % MOST_USERS] = value as u16,
         0x50 => rules.demarcation_privileges[row % MOST_DEMARCATIONS] = value as u64,
@@ -103,8 +119,27 @@ pub fn with_number(rules: Record, column: u8, row: usize, value: u8) -> Record {
     )
 }
 
+// The index of the full graph: every edge has label 0, and by to, then from, 32 of them stand together.
+fn full_index() -> EdgeIndex {
+    let mut index = EdgeIndex {
+        firsts: [512; LABEL_COUNT],
+        counts: [0; LABEL_COUNT],
+        places: [0; MOST_EDGES],
+    };
+    index.firsts[0] = 0;
+    index.counts[0] = 512;
+    let mut i: usize = 0;
+    while i < MOST_EDGES {
+        index.places[i] = ((i % 32) * 16 + i / 32) as u16;
+        i += 1;
+    }
+    index
+}
+
 // The record with 32 objects and 512 edges of label 0: from each object to each of the first 16.
 pub fn full_graph(mut rules: Record) -> Record {
+    let index = full_index();
+    rules.index = index;
     rules.objects = 32;
     rules.edge_count = MOST_EDGES;
     let mut i: usize = 0;
@@ -142,6 +177,19 @@ fn octet_at(rules: Record, column: u8, row: usize) -> u8 {
     }
 }
 
+// A number of the index, as wide as any.
+fn index_at(index: EdgeIndex, column: u8, row: usize) -> u16 {
+    match column {
+        0xC0 => index.firsts[row % LABEL_COUNT],
+        0xC1 => index.counts[row % LABEL_COUNT],
+        _ => index.places[row % MOST_EDGES],
+    }
+}
+
+fn wide(x: u16) -> u64 {
+    x as u64
+}
+
 // A number of any column but the counts and the memo's pair.
 fn number_at(rules: Record, column: u8, row: usize) -> u64 {
     let memo = rules.memo;
@@ -151,6 +199,7 @@ fn number_at(rules: Record, column: u8, row: usize) -> u64 {
         0xA1 => rules.method_privileges[row % MOST_METHODS],
         0xB2 => memo.known[row % MOST_FORMULAS] as u64,
         0xB3 => memo.value[row % MOST_FORMULAS] as u64,
+        0xC0..=0xC2 => wide(index_at(rules.index, column, row)),
         _ => octet_at(rules, column, row) as u64,
     }
 }
@@ -170,7 +219,7 @@ fn same_counts(a: Record, b: Record) -> bool {
 }
 
 // The columns that `number_at` reads.
-const COLUMNS: [u8; 21] = [
+const COLUMNS: [u8; 24] = [
     0x20,
     0x21,
     0x30,
@@ -192,13 +241,16 @@ const COLUMNS: [u8; 21] = [
     0xA1,
     0xB2,
     0xB3,
+    0xC0,
+    0xC1,
+    0xC2,
 ];
 
-// Two records are the same, unused rows and the memo included: as many rows as there may be edges cover every table.
+// Two records are the same, unused rows, index and memo included: as many rows as there may be edges cover every table.
 pub fn same_record(a: Record, b: Record) -> bool {
     let mut same = same_counts(a, b);
     let mut n: usize = 0;
-    while n < 21 * MOST_EDGES {
+    while n < 24 * MOST_EDGES {
         let column = COLUMNS[n / MOST_EDGES];
         same = same
             & (number_at(a, column, n % MOST_EDGES) == number_at(b, column, n % MOST_EDGES));

@@ -8,12 +8,12 @@ use Rattle.policy.specs.declared.Record.{Record}
 use Rattle.reading.specs.Loading.{load}
 use Rattle.tickets.specs.declared.Ticket.{Ticket}
 use Rattle.history.specs.Book.{Call, add, remove, askEagerly, askLazily, checkTicket, Book, plain, firstBook}
-use Rattle.history.specs.Book.{bookAfterCall, bookAnswer, bookAfter, numberAndSet, engineLeaves, engineAfter}
+use Rattle.history.specs.Book.{bookAnswer, bookAfter, numberAndSet, engineLeaves, engineAfter}
 use Rattle.history.specs.Agrees.{Agrees}
 use Rattle.history.specs.EditAgrees.{add-number, remove-number}
 use Rattle.history.specs.AskAgrees.{eager-answer, lazy-answer, check-number}
 use Rattle.history.specs.Demand3.{CallHolds}
-use Rattle.history.specs.Theorem.{call-holds, call-agrees, start}
+use Rattle.history.specs.Theorem.{call-holds, list-agrees, start}
 use Rattle.replay.specs.Replay.{ListedCall, call, liberally, strictly, unknown, answerTo, listedCallAt, leftAfter}
 
 -- the call of demand 3 that a listed call is; a predicate and an unknown kind are none
@@ -61,12 +61,6 @@ tickets-leave r calls zero all = refl
 tickets-leave r calls (suc n) all =
     let (t, e) = all n (omega arith) in
     ap (λ (x : ListedCall). answerTo (leftAfter r calls n) x .rules) e ∙ tickets-leave r calls n (λ i l. all i (omega arith))
-
--- the record agrees the book past a list of calls
-list-agrees : (b : Record) (cs : List Call) (book : Book) (r : Record) → Agrees b book r → Agrees b (bookAfter b book cs) (engineAfter r cs)
-unfolding bookAfter engineAfter
-list-agrees b [] book r h = h
-list-agrees b (c ∷ cs) book r h = list-agrees b cs (bookAfterCall b book c) (engineLeaves r c) (call-agrees b book r h c)
 
 -- the book's reply is answered
 answer-is : (b : Record) (book : Book) (r : Record) → Agrees b book r → (c : Call)

@@ -13,7 +13,7 @@ use borrow.Author.Tests.{lt-ltb, le-ltb, lt-leb, le-leb, eq-eqb, ne-eqb}
 use Rattle.octets.specs.Line.{Framed, refused, octets, kindOctet, starts, laterLines, lines}
 use Rattle.closure.specs.Closure.{circular}
 use Rattle.policy.specs.declared.Record.{Record}
-use Rattle.policy.specs.Table.{Kind, hierarchy, prerequisite, kindOf, rows}
+use Rattle.policy.specs.Table.{Kind, hierarchy, prerequisite, kindOf, rows, indexed}
 use Rattle.policy.specs.Loadable.{loadable}
 use Rattle.reading.specs.declared.Loaded.{Loaded}
 use Rattle.reading.specs.Loading.{Reading, atTop, lineRefusal, afterLine, notLoaded, afterLastLine, read, load}
@@ -47,7 +47,7 @@ unfolding afterLastLine
 end-line t = go (eqb (t .last) 0xFF) (circular (rows hierarchy (t .rules)) || circular (rows prerequisite (t .rules)))
   where
     go : (x y : Bool)
-        → cond (not x) (notLoaded 8 (t .lines + 1)) (cond y (notLoaded 9 (t .lines)) (record { number = 0; line = 0; rules = t .rules }))
+        → cond (not x) (notLoaded 8 (t .lines + 1)) (cond y (notLoaded 9 (t .lines)) (record { number = 0; line = 0; rules = indexed (t .rules) }))
         .line ≤ t .lines + 1
     go false y = omega arith
     go true true = omega arith

@@ -1,3 +1,4 @@
 mod Zero
 mod Lines
 mod Circles
+mod Shifts

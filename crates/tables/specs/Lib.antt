@@ -2,3 +2,4 @@ pub mod Height
 pub mod Loads
 pub mod HeightLaws
 pub mod LoadsLaws
+pub mod Columns

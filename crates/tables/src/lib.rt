@@ -16,6 +16,8 @@ use common::MOST_PAIRS;
 use common::MOST_PRINCIPALS;
 use common::MOST_USERS;
 
+pub mod columns;
+
 // The places of a column from count on are zero.
 fn zero_from(column: &[u8], count: usize) -> bool
     ensures { λ r. ⌜ r ≡ zeroFrom count (now (column .entry)) ⌝ }

@@ -8,8 +8,6 @@ ghost use lib.Dec.{ltb};
 ghost use Rattle.common.specs.Limits.{mostPrincipals};
 ghost use Rattle.common.specs.Lists.{every};
 ghost use Rattle.policy.specs.declared.Record as records;
-ghost use Rattle.policy.specs.Table.{Kind};
-ghost use Rattle.policy.specs.Loadable.{tableLoads};
 ghost use Rattle.policy.specs.Loadable as validity;
 ghost use Rattle.policy.specs.Typed.{Typed};
 ghost use Rattle.justification.specs.Justification.{members};
@@ -43,7 +41,7 @@ fn are_principals(count: usize, set: u32) -> bool
 
 // Whether every member that is a principal is enabled. Only the members' formulas are evaluated, and none once one is false.
 fn are_enabled(rules: Record, question: Question, set: u32) -> bool
-    requires { ⌜ ((j : Kind) → tableLoads rules j ≡ true) ⌝ }
+    requires { ⌜ validity.loadable rules ≡ true ⌝ }
     ensures { λ r. ⌜ r ≡ every (isEnabled rules question) (members rules set) ⌝ }
 {
     let n = rules.principal_count;
@@ -66,6 +64,9 @@ fn are_enabled(rules: Record, question: Question, set: u32) -> bool
                 &rules.edge_labels,
                 &rules.edge_sources,
                 &rules.edge_targets,
+                &rules.index.firsts,
+                &rules.index.counts,
+                &rules.index.places,
                 &rules.formula_ops,
                 &rules.formula_lefts,
                 &rules.formula_rights,
@@ -129,6 +130,25 @@ pub fn check_given(rules: Record, loads: bool, ticket: Ticket) -> u8
     if !are_enabled(rules, question, set) {
         return common::NOT_ENABLED;
     }
-    let masks = justification::masks_of(rules, index(question.method), 0);
+    let method = index(question.method);
+    let masks = justification::masks_of(
+        rules.demarcation_count,
+        &rules.demarcation_privileges,
+        rules.hierarchy_count,
+        &rules.inferiors,
+        &rules.superiors,
+        rules.principal_count,
+        &rules.principal_demarcations,
+        rules.exclusion_count,
+        &rules.exclusion_lows,
+        &rules.exclusion_highs,
+        rules.prerequisite_count,
+        &rules.prerequisites,
+        &rules.dependents,
+        &rules.method_forms,
+        &rules.method_privileges,
+        method,
+        0,
+    );
     constraint_refusal(masks, set)
 }

@@ -1,2 +1,4 @@
 pub mod VertexSets
 pub mod OneVertex
+pub mod Marking
+pub mod Halving

@@ -13,7 +13,7 @@ use borrow.Author.Count.{below-more}
 use borrow.Author.Tests.{eq-eqb, ne-eqb, eqb-true}
 use Rattle.common.specs.Lists.{at}
 use Rattle.common.specs.BoolLaws.{and-false, and-cases, and-both}
-use Rattle.vertices.specs.Steps.{leads, isIn, Among, HasMember}
+use Rattle.vertices.specs.Steps.{leads, isIn, Among, HasMember, FoundAtEnds}
 use Rattle.vertices.specs.StepLaws.{some-edge, edge-some}
 use Rattle.vertices.proofs.VertexSets.{beyond}
 
@@ -79,8 +79,7 @@ module _ (asked : List Bool) (x : ℕ) (only : (v : ℕ) → isIn asked v ≡ tr
       go false e = e
 
   -- something is found at the end of its edges: x leads there
-  pub found-from : (es : List (List ℕ)) (a : ℕ) (found : List Bool)
-      → ((v : ℕ) → isIn found v ≡ true → leads es 2 1 a (isIn asked) v ≡ true) → (w : ℕ) → isIn found w ≡ true
+  pub found-from : (es : List (List ℕ)) (a : ℕ) (found : List Bool) → FoundAtEnds es a asked found → (w : ℕ) → isIn found w ≡ true
       → Among asked (leads es 1 2 a (isIn found)) asked
   found-from es a found reached w t = record { members = λ v. go v (isIn asked v) refl }
     where

@@ -23,6 +23,10 @@ isIn t v = getD t v false
 pub record Among (asked : List Bool) (p : ℕ → Bool) (r : List Bool) : Type 0 where
   pub members : (v : ℕ) → isIn r v ≡ (isIn asked v && p v)
 
+-- every vertex that is found is at the end of an edge with the label a from an asked one
+abbrev pub FoundAtEnds : List (List ℕ) → ℕ → List Bool → List Bool → Type 0
+FoundAtEnds es a asked found = (v : ℕ) → isIn found v ≡ true → leads es 2 1 a (isIn asked) v ≡ true
+
 -- r says whether the set has a vertex
 pub record HasMember (s : List Bool) (r : Bool) : Type 0 where
   pub none : r ≡ false → (v : ℕ) → isIn s v ≡ false

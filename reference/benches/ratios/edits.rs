@@ -12,7 +12,7 @@ pub fn workloads() -> Vec<Workload> {
     let crown = support::crown_lines();
     vec![
         there_and_back("512 edges, at the start", &full, 0),
-        in_the_middle("512 edges, in the middle", &full),
+        full_in_the_middle("512 edges, in the middle"),
         there_and_back("512 edges, at the end", &full, last),
         Workload::calls("512 edges, refused", &full, refused(&full)),
         in_the_middle("crown, in the middle", &crown),
@@ -24,6 +24,11 @@ pub fn workloads() -> Vec<Workload> {
 pub fn in_the_middle(name: &str, lines: &Lines) -> Workload {
     let last = of_kind(lines, 3).len() - 1;
     there_and_back(name, lines, last / 2)
+}
+
+/// The same on the full graph.
+pub fn full_in_the_middle(name: &str) -> Workload {
+    in_the_middle(name, &full_graph())
 }
 
 /// The objects and edges of the full policy, without the rest, which edits leave alone.

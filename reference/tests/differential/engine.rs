@@ -1,9 +1,17 @@
 //! The engine under comparison: the C functions of `include/case_access.h`, on slices.
 
-/// A record that the caller owns: octets that only the engine reads, aligned to 8.
+use reference::Index;
+
+/// `ACCESS_RECORD_OCTETS` of the header.
+pub const RECORD_OCTETS: usize = 6192;
+
+/// Where a record has its index: numbers of two octets, the firsts, the counts, the places.
+pub const INDEX: usize = 4968;
+
+/// A record that the caller owns, aligned to 8: of its octets only the index is looked at here.
 #[derive(Clone, PartialEq)]
 #[repr(C, align(8))]
-pub struct Record([u8; 5104]);
+pub struct Record(pub [u8; RECORD_OCTETS]);
 
 extern "C" {
     fn access_load(record: *mut Record, bundle: *const u8, bundle_length: usize) -> u64;
@@ -38,7 +46,19 @@ extern "C" {
 impl Record {
     /// As a record must be before its first load.
     pub fn zeroed() -> Record {
-        Record([0; 5104])
+        Record([0; RECORD_OCTETS])
+    }
+}
+
+/// The index in a record's octets.
+pub fn index(record: &Record) -> Index {
+    let octets = record.0[INDEX..].chunks_exact(2);
+    let mut numbers = octets.map(|pair| u16::from_ne_bytes([pair[0], pair[1]]));
+    let mut next = |_| numbers.next().expect("the record has an index");
+    Index {
+        firsts: std::array::from_fn(&mut next),
+        counts: std::array::from_fn(&mut next),
+        places: std::array::from_fn(&mut next),
     }
 }
 

@@ -59,8 +59,9 @@ impl Formulas<'_> {
                     self.compound(random, child)
                 }
             };
-            if !self.take(formula) && in_tower {
-                self.take([4, own as u8 - 1, 0]);
+            // Where even a negation on top would be too costly, the tower begins anew.
+            if !self.take(formula) && in_tower && !self.take([4, own as u8 - 1, 0]) {
+                self.take([0, 0, 0]);
             }
         }
         self.lines.truncate(sizes.formulas);

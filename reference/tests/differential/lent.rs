@@ -52,8 +52,9 @@ impl Lent {
         self.steps.push(Step::Load(text.to_vec()));
         let reference = Outcome::of(0, 0, |_| reference::load(&mut self.reference, text));
         let engine = Outcome::of(0, 0, |_| engine::load(&mut self.engine.record, text));
-        self.both("load", reference, engine)
-            .map(|outcome| outcome.value)
+        let outcome = self.both("load", reference, engine)?;
+        self.must_be_indexed("load: another index than that of the edges", &outcome)?;
+        Ok(outcome.value)
     }
 
     /// Answers calls into a buffer of a length and a filling; where none of them is an edit or a
@@ -68,7 +69,14 @@ impl Lent {
         let stay = before.is_none_or(|before| before == self.records());
         let outcome = self.both("answer", reference, engine)?;
         self.must(stay, "answer: a record changed", &outcome, &outcome)?;
+        self.must_be_indexed("answer: another index than that of the edges", &outcome)?;
         Ok(outcome)
+    }
+
+    /// Stops unless the index in the engine's record is the one that building anew gives.
+    fn must_be_indexed(&self, what: &str, outcome: &Outcome) -> Checked<()> {
+        let same = engine::index(&self.engine.record) == self.reference.index();
+        self.must(same, what, outcome, outcome)
     }
 
     /// Both records as they are now.

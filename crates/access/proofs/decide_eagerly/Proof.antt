@@ -6,15 +6,17 @@ use mathlib.Core.Bool.{true}
 use native.Mathlib.Omega.{arith}
 use borrow.Author.Needs.{needs}
 use Rattle.common.specs.Sets.{member}
-use Rattle.policy.specs.Table.{Kind, user, edge, principal}
+use Rattle.policy.specs.Table.{Kind, user, principal}
 use Rattle.policy.specs.Loadable.{tableLoads}
 use Rattle.policy.specs.LoadableLaws.{table-few, loadable-table}
+use Rattle.policy.specs.RecordIndexLaws.{loadable-indexed}
 use Rattle.justification.specs.Justification.{least}
 use Rattle.justification.specs.MaskLaws.{least-set, least-none}
 use Rattle.memo.specs.Walk.{outcome}
 use Rattle.access.specs.Access.{answered, eager}
 use Rattle.justification.specs.Predicates.{questionRefusal}
 use Rattle.justification.specs.Masked.{Masked}
+use Rattle.justification.specs.GuardLaws.{masks-fit}
 use Rattle.justification.proofs.Asking.{Asked, asked, refusal-is, few-users}
 use Rattle.access.proofs.Answers.{formula-small, own-principals, eager-refused, eager-answer}
 use Rattle.access.proofs.decide_eagerly.Statement.{statement}
@@ -70,28 +72,40 @@ roles-of-requires c κs = table-few _ user (tables (c .before .before .before) u
 index-requires : tie.Need-index-requires
 index-requires c κs = search needs
 
+-- the method's index, from where the columns of the masks were lent
+abbrev grounds-lent : tie.After-masks-of-arg10 → tie.After-index
+grounds-lent c = c .before .before .before .before .before .before .before .before .before .before .before
+
 masks-of-requires : tie.Need-masks-of-requires
-masks-of-requires c κs = let h = memo-made (c .before) in (tables h, omega (arith, c .index .ensures, may h .method))
+masks-of-requires c κs =
+    let i = grounds-lent c in
+    let h = memo-made (i .before) in
+    masks-fit (entry h .args .t1) (i .index .result) (tables h) (omega (arith, i .index .ensures, may h .method))
 
 -- where the masks are made
 module _ (k : tie.After-masks-of) where
+  abbrev indexed : tie.After-index
+  indexed = grounds-lent (k .before)
+
   abbrev roles-found : tie.After-roles-of
-  roles-found = k .before .before
+  roles-found = indexed .before
 
   abbrev made : tie.After-memo-for
   made = memo-made roles-found
 
   masked : Masked (entry made .args .t1) (entry made .args .question .method) 0 (k .masks-of .result)
-  masked = subst (λ (m : ℕ). Masked (entry made .args .t1) m 0 (k .masks-of .result)) (k .before .index .ensures) (k .masks-of .ensures)
+  masked =
+      subst (λ (m : ℕ). Masked (entry made .args .t1) m 0 (k .masks-of .result)) (indexed .index .ensures)
+      (k .masks-of .ensures (entry made .args .t1) refl)
 
 -- the masks made, from where the columns were lent
-abbrev lent : tie.After-evaluated-all-arg7 → tie.After-masks-of
-lent c = c .before .before .before .before .before .before .before .before
+abbrev lent : tie.After-evaluated-all-arg10 → tie.After-masks-of
+lent c = c .before .before .before .before .before .before .before .before .before .before .before
 
 evaluated-all-requires : tie.Need-evaluated-all-requires
 evaluated-all-requires c κs =
     let h = made (lent c) in
-    (table-few _ edge (tables h edge), (table-few _ principal (tables h principal), λ p l. formula-small _ (tables h) p l))
+    (loadable-indexed _ (may h .loads), (table-few _ principal (tables h principal), λ p l. formula-small _ (tables h) p l))
 
 valued-requires : tie.Need-valued-requires
 valued-requires c κs =

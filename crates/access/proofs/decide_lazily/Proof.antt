@@ -4,11 +4,13 @@ use mathlib.Core.Path.{_≡_, refl, sym, _∙_, subst}
 use mathlib.Core.Bool.{true}
 use native.Mathlib.Omega.{arith}
 use borrow.Author.Needs.{needs}
-use Rattle.policy.specs.Table.{Kind, user, edge, principal}
+use Rattle.policy.specs.Table.{Kind, user, principal}
 use Rattle.policy.specs.Loadable.{tableLoads}
 use Rattle.policy.specs.LoadableLaws.{table-few, loadable-table}
+use Rattle.policy.specs.RecordIndexLaws.{loadable-indexed}
 use Rattle.justification.specs.Predicates.{questionRefusal}
 use Rattle.justification.specs.Masked.{Masked}
+use Rattle.justification.specs.GuardLaws.{masks-fit}
 use Rattle.justification.proofs.Asking.{Asked, asked, refusal-is, few-users}
 use Rattle.access.proofs.Answers.{formula-small, own-principals, lazy-refused, lazy-answer}
 use Rattle.access.proofs.decide_lazily.Statement.{statement}
@@ -64,29 +66,41 @@ roles-of-requires c κs = table-few _ user (tables (c .before .before .before) u
 index-requires : tie.Need-index-requires
 index-requires c κs = search needs
 
+-- the method's index, from where the columns of the masks were lent
+abbrev grounds-lent : tie.After-masks-of-arg10 → tie.After-index
+grounds-lent c = c .before .before .before .before .before .before .before .before .before .before .before
+
 masks-of-requires : tie.Need-masks-of-requires
-masks-of-requires c κs = let h = memo-made (c .before) in (tables h, omega (arith, c .index .ensures, may h .method))
+masks-of-requires c κs =
+    let i = grounds-lent c in
+    let h = memo-made (i .before) in
+    masks-fit (entry h .args .t1) (i .index .result) (tables h) (omega (arith, i .index .ensures, may h .method))
 
 -- where the masks are made
 module _ (k : tie.After-masks-of) where
+  abbrev indexed : tie.After-index
+  indexed = grounds-lent (k .before)
+
   abbrev roles-found : tie.After-roles-of
-  roles-found = k .before .before
+  roles-found = indexed .before
 
   abbrev made : tie.After-memo-for
   made = memo-made roles-found
 
   masked : Masked (entry made .args .t1) (entry made .args .question .method) 0 (k .masks-of .result)
-  masked = subst (λ (m : ℕ). Masked (entry made .args .t1) m 0 (k .masks-of .result)) (k .before .index .ensures) (k .masks-of .ensures)
+  masked =
+      subst (λ (m : ℕ). Masked (entry made .args .t1) m 0 (k .masks-of .result)) (indexed .index .ensures)
+      (k .masks-of .ensures (entry made .args .t1) refl)
 
 -- the masks made, from where the columns were lent
-abbrev lent : tie.After-searches-arg7 → tie.After-masks-of
-lent c = c .before .before .before .before .before .before .before .before
+abbrev lent : tie.After-searches-arg10 → tie.After-masks-of
+lent c = c .before .before .before .before .before .before .before .before .before .before .before
 
 searches-requires : tie.Need-searches-requires
 searches-requires c κs =
     let k = lent c in
     let h = made k in (
-      table-few _ edge (tables h edge),
+      loadable-indexed _ (may h .loads),
       (table-few _ principal (tables h principal), λ p l. formula-small _ (tables h) p l),
       omega (arith, masked k .few, masked k .count),
     )

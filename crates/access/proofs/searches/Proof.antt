@@ -18,14 +18,14 @@ use Rattle.access.proofs.searches.Statement.{statement}
 use Rattle.access.proofs.searches.Tie as tie
 
 abbrev Inv-loop : tie.InvT-loop
-Inv-loop masks before edge-count labels sources targets ops lefts rights count formulas roles object requestor memo₀ rounds₀ memo rounds =
+Inv-loop masks before edge-count labels sources targets firsts counts places ops lefts rights count formulas roles object requestor memo₀ rounds₀ memo rounds =
     ((r : Record) (k : ℕ) → Principals count formulas r → Masked r k 0 masks
     → Round (truthIn (contextOf roles object requestor (edgesIn edge-count labels sources targets)) (formulasIn ops lefts rights)) r k before
     rounds memo)
     × (rounds ≤ count + 1)
 
 abbrev μ-loop : tie.MeasureT-loop
-μ-loop masks before edge-count labels sources targets ops lefts rights count formulas roles object requestor memo₀ rounds₀ memo rounds =
+μ-loop masks before edge-count labels sources targets firsts counts places ops lefts rights count formulas roles object requestor memo₀ rounds₀ memo rounds =
     count + 1 - rounds
 
 loop-holds : tie.Need-loop-holds Inv-loop μ-loop

@@ -7,8 +7,10 @@ use mathlib.Core.List.{List}
 use native.Mathlib.Omega.{arith}
 use lib.ListN.{length, length-set}
 use lib.Seq.{getD-set-same}
+use Rattle.common.specs.Limits.{mostFormulas}
 use Rattle.common.specs.Lists.{at}
 use Rattle.common.specs.BoolLaws.{and-true, and-false}
+use Rattle.edge_index.specs.Spans.{Span}
 use Rattle.vertices.specs.Steps.{isIn, edgesIn}
 use Rattle.formula.specs.Formula.{Context, Formulas, holding, slot, keep, trueBelow}
 use Rattle.formula.specs.Evaluation.{formulasIn, contextIn}
@@ -28,10 +30,12 @@ use Rattle.formula.proofs.Recursion.{
   part-at-slot,
   no-op,
   scanned,
-  found-reached,
+  found-everywhere,
   kept-one,
   kept-none,
   at-one,
+  along,
+  still-indexed,
 }
 use borrow.Author.Needs.{needs}
 use borrow.Author.Tests.{not-true}
@@ -57,6 +61,7 @@ use Rattle.formula.proofs.in_slot.Reads as in-slot-reads
 use Rattle.formula.proofs.index.Reads as index-reads
 use Rattle.formula.proofs.keeping.Reads as keeping-reads
 use Rattle.formula.proofs.has_no_parts.Reads as has-no-parts-reads
+use Rattle.edge_index.proofs.positions_of.Reads as positions-of-reads
 use Rattle.vertices.proofs.all.Reads as all-reads
 use Rattle.vertices.proofs.leading_to.Reads as leading-to-reads
 use Rattle.vertices.proofs.none_beside.Reads as none-beside-reads
@@ -74,19 +79,19 @@ use Rattle.formula.proofs.+at_slot+connective+evaluate+keep_each+scan_e
 use Rattle.formula.proofs.+at_slot+connective+evaluate+keep_each+scan_edges.Tie.{close}
 
 abbrev μ-at-slot : Measures 2 at-slot-kinds.ps ℕ
-μ-at-slot κs a = 2 * a .1 .1 .1 .1 .1 .1 .1 .0 + 1
+μ-at-slot κs a = 2 * a .1 .1 .1 .1 .1 .1 .1 .1 .1 .1 .0 + 1
 
 abbrev μ-connective : Measures 2 connective-kinds.ps ℕ
-μ-connective κs a = 2 * a .1 .1 .1 .1 .1 .1 .1 .0 + 1
+μ-connective κs a = 2 * a .1 .1 .1 .1 .1 .1 .1 .1 .1 .1 .0 + 1
 
 abbrev μ-evaluate : Measures 2 evaluate-kinds.ps ℕ
-μ-evaluate κs a = 2 * a .1 .1 .1 .1 .1 .1 .1 .0
+μ-evaluate κs a = 2 * a .1 .1 .1 .1 .1 .1 .1 .1 .1 .1 .0
 
 abbrev μ-keep-each : Measures 2 keep-each-kinds.ps ℕ
-μ-keep-each κs a = 2 * a .1 .1 .1 .1 .1 .1 .1 .0 + 1
+μ-keep-each κs a = 2 * a .1 .1 .1 .1 .1 .1 .1 .1 .1 .1 .0 + 1
 
 abbrev μ-scan-edges : Measures 2 scan-edges-kinds.ps ℕ
-μ-scan-edges κs a = 2 * a .1 .1 .1 .1 .1 .1 .1 .1 .1 .0 + 1
+μ-scan-edges κs a = 2 * a .1 .1 .1 .1 .1 .1 .1 .1 .1 .1 .1 .1 .1 .0 + 1
 
 abbrev at-slot-at : ℕ → In 2 at-slot-kinds.ps
 at-slot-at t = and 2 at-slot-kinds.ps (is 2 at-slot-kinds.ps μ-at-slot t) at-slot.Pre
@@ -184,6 +189,8 @@ keep-each-claims t = (
 
 abbrev scan-edges-claims : ℕ → scan-edges-lts.Claims
 scan-edges-claims t = (
+  positions-of-reads.Asked,
+  positions-of-reads.Learnt,
   index-reads.Asked,
   index-reads.Learnt,
   none-beside-reads.Asked,
@@ -201,6 +208,10 @@ scan-edges-claims t = (
   leading-to-reads.Asked,
   leading-to-reads.Learnt,
 )
+
+-- what the function of an op at formula f asks where it evaluates a part: the formula number falls, the index is that of the edges
+part-asked : {t f : ℕ} {Index : Type 0} → 2 * f + 1 ≡ t → Index → f < mostFormulas → (2 * f < t) × (Index × (f ≤ mostFormulas))
+part-asked e index l = (omega arith, (index, omega arith))
 
 module _ (t : ℕ) (s : at-slot-lts.Start (at-slot-claims t) (at-slot-at t) at-slot.Post) where
   -- the formulas and the context that a call of `at_slot` is given
@@ -251,7 +262,11 @@ at-slot-asking-requires : (t : ℕ) → at-slot-lts.Need-asking-requires (at-slo
 at-slot-asking-requires t c κs = search needs
 
 at-slot-evaluate-requires : (t : ℕ) → at-slot-lts.Need-evaluate-requires (at-slot-claims t) (at-slot-at t) at-slot.Post
-at-slot-evaluate-requires t c κs = search needs
+at-slot-evaluate-requires t c κs =
+    let asking = c .before in
+    let seen = asking .before .before .before .before in
+    let s = seen .before .before .before .before in
+    part-asked (s .pre .0) (still-indexed (asking .asking .ensures .0) (s .pre .1 .0)) (s .pre .1 .1)
 
 at-slot-array-read-if2 : (t : ℕ) → at-slot-lts.Need-array-read-if2 (at-slot-claims t) (at-slot-at t) at-slot.Post
 at-slot-array-read-if2 t c = search needs
@@ -333,17 +348,31 @@ connective-element-copy-out-index-2 t c = search needs
 connective-index-requires-2 : (t : ℕ) → connective-lts.Need-index-requires-2 (connective-claims t) (connective-at t) connective.Post
 connective-index-requires-2 t c κs = search needs
 
+module _ (t : ℕ) (c : connective-lts.After-index2 (connective-claims t) (connective-at t) connective.Post) where
+  -- past the parts' numbers: where the left one was read, and where the call began
+  abbrev connective-left : connective-lts.After-index (connective-claims t) (connective-at t) connective.Post
+  connective-left = c .before .before
+
+  abbrev connective-start : connective-lts.Start (connective-claims t) (connective-at t) connective.Post
+  connective-start = connective-left .before .before .before
+
 connective-evaluate-requires : (t : ℕ) → connective-lts.Need-evaluate-requires (connective-claims t) (connective-at t) connective.Post
-connective-evaluate-requires t c κs = search needs
+connective-evaluate-requires t c κs =
+    let s = connective-start t c in
+    part-asked (s .pre .0) (s .pre .1 .0) (s .pre .1 .1)
 
 connective-minus-requires : (t : ℕ) → connective-lts.Need-minus-requires (connective-claims t) (connective-at t) connective.Post
 connective-minus-requires t c κs = search needs
 
 connective-evaluate-requires-2 : (t : ℕ) → connective-lts.Need-evaluate-requires-2 (connective-claims t) (connective-at t) connective.Post
-connective-evaluate-requires-2 t c κs = search needs
+connective-evaluate-requires-2 t c κs =
+    let s = connective-start t (c .before .before .before) in
+    part-asked (s .pre .0) (s .pre .1 .0) (s .pre .1 .1)
 
 connective-evaluate-requires-3 : (t : ℕ) → connective-lts.Need-evaluate-requires-3 (connective-claims t) (connective-at t) connective.Post
-connective-evaluate-requires-3 t c κs = search needs
+connective-evaluate-requires-3 t c κs =
+    let s = connective-start t (c .before .before) in
+    part-asked (s .pre .0) (s .pre .1 .0) (s .pre .1 .1)
 
 connective-union-requires : (t : ℕ) → connective-lts.Need-union-requires (connective-claims t) (connective-at t) connective.Post
 connective-union-requires t c κs = search needs
@@ -352,8 +381,8 @@ connective-returns : (t : ℕ) → connective-lts.Need-returns (connective-claim
 connective-returns t c =
     let part = c .before .before .before in
     let b = part .before in
-    let a = b .before .before in
-    let s = a .before .before .before in
+    let a = connective-left t b in
+    let s = connective-start t b in
     negated (connective-formulas t s) (connective-context t s) (s .args .f) (s .args .asked .now)
     (c .before .before .match .keys1) (a .index .ensures .0) (part .evaluate .ensures) (c .minus .ensures)
 
@@ -361,8 +390,8 @@ connective-returns-2 : (t : ℕ) → connective-lts.Need-returns-2 (connective-c
 connective-returns-2 t c =
     let part = c .before .before .before in
     let b = part .before in
-    let a = b .before .before in
-    let s = a .before .before .before in
+    let a = connective-left t b in
+    let s = connective-start t b in
     both (connective-formulas t s) (connective-context t s) (s .args .f) (s .args .asked .now)
     (c .before .before .match .keys2) (a .index .ensures .0) (b .index2 .ensures .0) (part .evaluate .ensures) (c .evaluate2 .ensures)
 
@@ -370,8 +399,8 @@ connective-returns-3 : (t : ℕ) → connective-lts.Need-returns-3 (connective-c
 connective-returns-3 t c =
     let part = c .before .before .before in
     let b = part .before in
-    let a = b .before .before in
-    let s = a .before .before .before in
+    let a = connective-left t b in
+    let s = connective-start t b in
     either (connective-formulas t s) (connective-context t s) (s .args .f) (s .args .asked .now)
     (omega (arith, s .pre .1 .2, s .pre .1 .3, c .before .before .match .rest .0 .1, c .before .before .match .rest .1))
     (a .index .ensures .0) (b .index2 .ensures .0) (part .evaluate .ensures) (c .before .evaluate3 .ensures) (c .union .ensures)
@@ -396,14 +425,31 @@ evaluate-returns t c =
 evaluate-element-copy-out-op : (t : ℕ) → evaluate-lts.Need-element-copy-out-op (evaluate-claims t) (evaluate-at t) evaluate.Post
 evaluate-element-copy-out-op t c = search needs
 
+module _ (t : ℕ) (c : evaluate-lts.After-op (evaluate-claims t) (evaluate-at t) evaluate.Post) where
+  -- past the op's number: where the call began; the measure falls, and the formula's number is in its bound
+  abbrev evaluate-start : evaluate-lts.Start (evaluate-claims t) (evaluate-at t) evaluate.Post
+  evaluate-start = c .before .before
+
+  evaluate-falls : 2 * evaluate-start .args .f + 1 < t
+  evaluate-falls = omega (arith, evaluate-start .pre .0, c .before .if1 .left)
+
+  evaluate-few : evaluate-start .args .f < mostFormulas
+  evaluate-few = omega (arith, evaluate-start .pre .1 .1, c .before .if1 .left)
+
 evaluate-scan-edges-requires : (t : ℕ) → evaluate-lts.Need-scan-edges-requires (evaluate-claims t) (evaluate-at t) evaluate.Post
-evaluate-scan-edges-requires t c κs = search needs
+evaluate-scan-edges-requires t c κs =
+    let read = c .before in
+    (evaluate-falls t read, (evaluate-start t read .pre .1 .0, evaluate-few t read, record { start = refl; end = refl }))
 
 evaluate-scan-edges-requires-2 : (t : ℕ) → evaluate-lts.Need-scan-edges-requires-2 (evaluate-claims t) (evaluate-at t) evaluate.Post
-evaluate-scan-edges-requires-2 t c κs = search needs
+evaluate-scan-edges-requires-2 t c κs =
+    let read = c .before in
+    (evaluate-falls t read, (evaluate-start t read .pre .1 .0, evaluate-few t read, record { start = refl; end = refl }))
 
 evaluate-keep-each-requires : (t : ℕ) → evaluate-lts.Need-keep-each-requires (evaluate-claims t) (evaluate-at t) evaluate.Post
-evaluate-keep-each-requires t c κs = search needs
+evaluate-keep-each-requires t c κs =
+    let read = c .before in
+    (evaluate-falls t read, (evaluate-start t read .pre .1 .0, evaluate-few t read, c .match .keys3))
 
 evaluate-element-copy-out-in-slot : (t : ℕ) → evaluate-lts.Need-element-copy-out-in-slot (evaluate-claims t) (evaluate-at t) evaluate.Post
 evaluate-element-copy-out-in-slot t c = search needs
@@ -412,7 +458,9 @@ evaluate-in-slot-requires : (t : ℕ) → evaluate-lts.Need-in-slot-requires (ev
 evaluate-in-slot-requires t c κs = search needs
 
 evaluate-at-slot-requires : (t : ℕ) → evaluate-lts.Need-at-slot-requires (evaluate-claims t) (evaluate-at t) evaluate.Post
-evaluate-at-slot-requires t c κs = search needs
+evaluate-at-slot-requires t c κs =
+    let read = c .before in
+    (evaluate-falls t read, (evaluate-start t read .pre .1 .0, evaluate-few t read, c .match .keys5))
 
 evaluate-element-copy-out-plain : (t : ℕ) → evaluate-lts.Need-element-copy-out-plain (evaluate-claims t) (evaluate-at t) evaluate.Post
 evaluate-element-copy-out-plain t c = search needs
@@ -421,7 +469,9 @@ evaluate-plain-requires : (t : ℕ) → evaluate-lts.Need-plain-requires (evalua
 evaluate-plain-requires t c κs = search needs
 
 evaluate-connective-requires : (t : ℕ) → evaluate-lts.Need-connective-requires (evaluate-claims t) (evaluate-at t) evaluate.Post
-evaluate-connective-requires t c κs = search needs
+evaluate-connective-requires t c κs =
+    let read = c .before .before .before in
+    (evaluate-falls t read, (evaluate-start t read .pre .1 .0, evaluate-few t read, search needs, search needs))
 
 evaluate-none-requires-2 : (t : ℕ) → evaluate-lts.Need-none-requires-2 (evaluate-claims t) (evaluate-at t) evaluate.Post
 evaluate-none-requires-2 t c κs = search needs
@@ -429,7 +479,7 @@ evaluate-none-requires-2 t c κs = search needs
 evaluate-returns-2 : (t : ℕ) → evaluate-lts.Need-returns-2 (evaluate-claims t) (evaluate-at t) evaluate.Post
 evaluate-returns-2 t c =
     let read = c .before .before in
-    let s = read .before .before in
+    let s = evaluate-start t read in
     true-below (evaluate-formulas t s) (evaluate-context t s) (s .args .f) (s .args .asked .now) (s .args .n) (read .before .if1 .left)
     (forward (evaluate-formulas t s) (evaluate-context t s) (s .args .f) (s .args .asked .now) (c .before .match .keys1)
     (c .scan-edges .ensures))
@@ -437,7 +487,7 @@ evaluate-returns-2 t c =
 evaluate-returns-3 : (t : ℕ) → evaluate-lts.Need-returns-3 (evaluate-claims t) (evaluate-at t) evaluate.Post
 evaluate-returns-3 t c =
     let read = c .before .before in
-    let s = read .before .before in
+    let s = evaluate-start t read in
     true-below (evaluate-formulas t s) (evaluate-context t s) (s .args .f) (s .args .asked .now) (s .args .n) (read .before .if1 .left)
     (backward (evaluate-formulas t s) (evaluate-context t s) (s .args .f) (s .args .asked .now)
     (s .args .q .«edge_count») (s .args .labels .now) (s .args .from .now) (s .args .to .now) refl (c .before .match .keys2)
@@ -446,14 +496,14 @@ evaluate-returns-3 t c =
 evaluate-returns-4 : (t : ℕ) → evaluate-lts.Need-returns-4 (evaluate-claims t) (evaluate-at t) evaluate.Post
 evaluate-returns-4 t c =
     let read = c .before .before in
-    let s = read .before .before in
+    let s = evaluate-start t read in
     true-below (evaluate-formulas t s) (evaluate-context t s) (s .args .f) (s .args .asked .now) (s .args .n) (read .before .if1 .left)
     (c .keep-each .ensures)
 
 evaluate-returns-5 : (t : ℕ) → evaluate-lts.Need-returns-5 (evaluate-claims t) (evaluate-at t) evaluate.Post
 evaluate-returns-5 t c =
     let read = c .before .before .before in
-    let s = read .before .before in
+    let s = evaluate-start t read in
     true-below (evaluate-formulas t s) (evaluate-context t s) (s .args .f) (s .args .asked .now) (s .args .n) (read .before .if1 .left)
     (vertex-in-slot (evaluate-formulas t s) (evaluate-context t s) (s .args .f) (s .args .asked .now) (c .before .before .match .keys4)
     (c .in-slot .ensures))
@@ -461,14 +511,14 @@ evaluate-returns-5 t c =
 evaluate-returns-6 : (t : ℕ) → evaluate-lts.Need-returns-6 (evaluate-claims t) (evaluate-at t) evaluate.Post
 evaluate-returns-6 t c =
     let read = c .before .before in
-    let s = read .before .before in
+    let s = evaluate-start t read in
     true-below (evaluate-formulas t s) (evaluate-context t s) (s .args .f) (s .args .asked .now) (s .args .n) (read .before .if1 .left)
     (c .at-slot .ensures)
 
 evaluate-returns-7 : (t : ℕ) → evaluate-lts.Need-returns-7 (evaluate-claims t) (evaluate-at t) evaluate.Post
 evaluate-returns-7 t c =
     let read = c .before .before .before .before in
-    let s = read .before .before in
+    let s = evaluate-start t read in
     true-below (evaluate-formulas t s) (evaluate-context t s) (s .args .f) (s .args .asked .now) (s .args .n) (read .before .if1 .left)
     (by-op (evaluate-formulas t s) (evaluate-context t s) (s .args .f) (s .args .asked .now) _ refl (c .plain .ensures (s .args .labels .now)
     (s .args .from .now) (s .args .to .now) _ (λ d. trueBelow (evaluate-formulas t s) d (s .args .f))))
@@ -476,7 +526,7 @@ evaluate-returns-7 t c =
 evaluate-returns-8 : (t : ℕ) → evaluate-lts.Need-returns-8 (evaluate-claims t) (evaluate-at t) evaluate.Post
 evaluate-returns-8 t c =
     let read = c .before .before .before .before in
-    let s = read .before .before in
+    let s = evaluate-start t read in
     true-below (evaluate-formulas t s) (evaluate-context t s) (s .args .f) (s .args .asked .now) (s .args .n) (read .before .if1 .left)
     (c .connective .ensures)
 
@@ -484,7 +534,7 @@ evaluate-returns-9 : (t : ℕ) → evaluate-lts.Need-returns-9 (evaluate-claims 
 evaluate-returns-9 t c =
     let rest = c .before .before .before .match .rest in
     let read = c .before .before .before .before in
-    let s = read .before .before in
+    let s = evaluate-start t read in
     true-below (evaluate-formulas t s) (evaluate-context t s) (s .args .f) (s .args .asked .now) (s .args .n) (read .before .if1 .left)
     (no-op (evaluate-formulas t s) (evaluate-context t s) (s .args .f) (s .args .asked .now) (omega (
       arith,
@@ -498,12 +548,12 @@ evaluate-returns-9 t c =
     )) (c .none2 .ensures .1))
 
 abbrev keep-each-Inv-loop : keep-each-lts.InvT-loop
-keep-each-Inv-loop q labels from to ops lefts rights f asked a right b each r₀ i₀ r i =
+keep-each-Inv-loop q labels from to firsts counts places ops lefts rights f asked a right b each r₀ i₀ r i =
     FilledTo (λ v. isIn each v && trueBelow (formulasIn ops lefts rights) (keep (contextIn q labels from to) a v) f right v) r i
     × (length r ≡ 256) × (i ≤ 256)
 
 abbrev keep-each-μ-loop : keep-each-lts.MeasureT-loop
-keep-each-μ-loop q labels from to ops lefts rights f asked a right b each r₀ i₀ r i = 256 - i
+keep-each-μ-loop q labels from to firsts counts places ops lefts rights f asked a right b each r₀ i₀ r i = 256 - i
 
 module _ (t : ℕ) (s : keep-each-lts.Start (keep-each-claims t) (keep-each-at t) keep-each.Post keep-each-Inv-loop keep-each-μ-loop) where
   -- the formulas and the context that a call of `keep_each` is given
@@ -531,7 +581,10 @@ keep-each-reads-slot-requires t c κs = search needs
 
 keep-each-evaluate-requires : (t : ℕ)
     → keep-each-lts.Need-evaluate-requires (keep-each-claims t) (keep-each-at t) keep-each.Post keep-each-Inv-loop keep-each-μ-loop
-keep-each-evaluate-requires t c κs = search needs
+keep-each-evaluate-requires t c κs =
+    let part = c .before .before in
+    let s = part .before .before .before in
+    part-asked (s .pre .0) (s .pre .1 .0) (s .pre .1 .1)
 
 keep-each-returns : (t : ℕ)
     → keep-each-lts.Need-returns (keep-each-claims t) (keep-each-at t) keep-each.Post keep-each-Inv-loop keep-each-μ-loop
@@ -543,7 +596,7 @@ keep-each-returns t c =
     each-kept (keep-each-formulas t s) (keep-each-context t s) (s .args .f) asked (s .pre .1 .2)
     (kept-none (keep-each-formulas t s) (keep-each-context t s) (s .args .f) (at (s .args .lefts .now) (s .args .f))
     (at (s .args .rights .now) (s .args .f)) asked
-    (sym (read .reads-slot .ensures) ∙ not-true (read .reads-slot .result) (c .before .if1 .taken))
+    (read .reads-slot .ensures) (not-true (read .reads-slot .result) (c .before .if1 .taken))
     (part .index .ensures .0) (c .evaluate .ensures))
 
 keep-each-whole-requires : (t : ℕ)
@@ -588,10 +641,8 @@ keep-each-evaluate-requires-2 t c κs =
     let keeping = c .before .before in
     let asking = keeping .before in
     let l = asking .before .before .before in
-    let s = l .before .before .before .before .before .before .before .before .before in (
-      omega (arith, s .pre .0),
-      (omega (arith, keeping .keeping .ensures .0, asking .asking .ensures .0, s .pre .1 .0), omega (arith, s .pre .1 .1)),
-    )
+    let s = l .before .before .before .before .before .before .before .before .before in
+    part-asked (s .pre .0) (still-indexed (keeping .keeping .ensures .0 ∙ asking .asking .ensures .0) (s .pre .1 .0)) (s .pre .1 .1)
 
 keep-each-array-read-r : (t : ℕ)
     → keep-each-lts.Need-array-read-r (keep-each-claims t) (keep-each-at t) keep-each.Post keep-each-Inv-loop keep-each-μ-loop
@@ -663,8 +714,10 @@ module _ (t : ℕ) (s : scan-edges-lts.Start (scan-edges-claims t) (scan-edges-a
 scan-edges-element-copy-out-a : (t : ℕ) → scan-edges-lts.Need-element-copy-out-a (scan-edges-claims t) (scan-edges-at t) scan-edges.Post
 scan-edges-element-copy-out-a t c = search needs
 
-scan-edges-element-copy-out-index : (t : ℕ)
-    → scan-edges-lts.Need-element-copy-out-index (scan-edges-claims t) (scan-edges-at t) scan-edges.Post
+scan-edges-positions-of-requires : (t : ℕ) → scan-edges-lts.Need-positions-of-requires (scan-edges-claims t) (scan-edges-at t) scan-edges.Post
+scan-edges-positions-of-requires t c κs = search needs
+
+scan-edges-element-copy-out-index : (t : ℕ) → scan-edges-lts.Need-element-copy-out-index (scan-edges-claims t) (scan-edges-at t) scan-edges.Post
 scan-edges-element-copy-out-index t c = search needs
 
 scan-edges-index-requires : (t : ℕ) → scan-edges-lts.Need-index-requires (scan-edges-claims t) (scan-edges-at t) scan-edges.Post
@@ -679,54 +732,78 @@ scan-edges-has-no-parts-requires t c κs = search needs
 scan-edges-all-requires : (t : ℕ) → scan-edges-lts.Need-all-requires (scan-edges-claims t) (scan-edges-at t) scan-edges.Post
 scan-edges-all-requires t c κs = search needs
 
+module _ (t : ℕ) (c : scan-edges-lts.After-has-no-parts (scan-edges-claims t) (scan-edges-at t) scan-edges.Post) where
+  -- before the ways part: where the right part's number was read, where the label was looked up, where the call began
+  abbrev scan-edges-right : scan-edges-lts.After-index (scan-edges-claims t) (scan-edges-at t) scan-edges.Post
+  scan-edges-right = c .before .before
+
+  abbrev scan-edges-found : scan-edges-lts.After-positions-of (scan-edges-claims t) (scan-edges-at t) scan-edges.Post
+  scan-edges-found = scan-edges-right .before .before
+
+  abbrev scan-edges-start : scan-edges-lts.Start (scan-edges-claims t) (scan-edges-at t) scan-edges.Post
+  scan-edges-start = scan-edges-found .before .before
+
+  -- the label's edges stand at the positions found, in the order of the scan's direction
+  scan-edges-span : Span (scan-edges-start .args .q .«edge_count») (scan-edges-start .args .labels .now) (scan-edges-start .args .starts .now)
+      (scan-edges-start .args .places .now) (at (scan-edges-start .args .lefts .now) (scan-edges-start .args .f))
+      (scan-edges-start .args .backward) (scan-edges-found .positions-of .result .first) (scan-edges-found .positions-of .result .stop)
+  scan-edges-span =
+      let s = scan-edges-start in
+      let a = s .args in
+      along (s .pre .1 .2)
+      (scan-edges-found .positions-of .ensures (a .q .«edge_count») (a .labels .now) (a .from .now) (a .to .now) (a .places .now) (a .backward)
+      (s .pre .1 .0))
+
 scan-edges-evaluate-requires : (t : ℕ) → scan-edges-lts.Need-evaluate-requires (scan-edges-claims t) (scan-edges-at t) scan-edges.Post
-scan-edges-evaluate-requires t c κs = search needs
+scan-edges-evaluate-requires t c κs =
+    let s = scan-edges-start t (c .before .before .before) in
+    part-asked (s .pre .0) (s .pre .1 .0) (s .pre .1 .1)
 
 scan-edges-starts-to-requires : (t : ℕ) → scan-edges-lts.Need-starts-to-requires (scan-edges-claims t) (scan-edges-at t) scan-edges.Post
-scan-edges-starts-to-requires t c κs = search needs
+scan-edges-starts-to-requires t c κs =
+    let all = c .before .before .before in
+    scan-edges-span t (all .before .before) .passable
 
 scan-edges-returns : (t : ℕ) → scan-edges-lts.Need-returns (scan-edges-claims t) (scan-edges-at t) scan-edges.Post
 scan-edges-returns t c =
     let found = c .before .before in
     let all = found .before .before in
-    let b = all .before .before .before .before in
-    let s = b .before .before .before in
-    let part = trueBelow (scan-edges-formulas t s) (scan-edges-context t s) (s .args .f) in
-    c .starts-to .ensures (part (at (s .args .rights .now) (s .args .f)))
-    (λ v l. found .evaluate .ensures .members v ∙ (λ j. all .all .ensures v l j && part (b .index .ensures .0 j) v))
+    let ways = all .before .before in
+    let s = scan-edges-start t ways in
+    let a = s .args in
+    let b = at (a .rights .now) (a .f) in
+    let part = trueBelow (scan-edges-formulas t s) (scan-edges-context t s) (a .f) in
+    c .starts-to .ensures (a .q .«edge_count») (a .labels .now) (at (a .lefts .now) (a .f)) (scan-edges-span t ways .listed)
+    (part b) (found-everywhere b part (scan-edges-right t ways .index .ensures .0) (all .all .ensures) (found .evaluate .ensures))
 
 scan-edges-reached-from-requires : (t : ℕ) → scan-edges-lts.Need-reached-from-requires (scan-edges-claims t) (scan-edges-at t) scan-edges.Post
 scan-edges-reached-from-requires t c κs =
-    let one = c .before .before in
-    (one .before .before .before .before .pre .1 .0, one .none-beside .ensures)
+    (scan-edges-span t (c .before) .passable, c .before .before .none-beside .ensures)
 
 scan-edges-evaluate-requires-2 : (t : ℕ) → scan-edges-lts.Need-evaluate-requires-2 (scan-edges-claims t) (scan-edges-at t) scan-edges.Post
-scan-edges-evaluate-requires-2 t c κs = search needs
+scan-edges-evaluate-requires-2 t c κs =
+    let s = scan-edges-start t (c .before .before .before) in
+    part-asked (s .pre .0) (s .pre .1 .0) (s .pre .1 .1)
 
 scan-edges-leading-to-requires : (t : ℕ) → scan-edges-lts.Need-leading-to-requires (scan-edges-claims t) (scan-edges-at t) scan-edges.Post
 scan-edges-leading-to-requires t c κs =
-    let found = c .before in
-    let reached = found .before .before in
-    let one = reached .before .before .before in
-    let s = one .before .before .before .before in
-    let a = s .args in (
-      s .pre .1 .0,
-      λ e. (a .q .alone, one .none-beside .ensures e),
-      found-reached (edgesIn (a .q .«edge_count») (a .labels .now) (a .starts .now) (a .ends .now)) (at (a .lefts .now) (a .f)) (a .asked .now)
-          (reached .reached-from .ensures) (found .evaluate2 .ensures),
-    )
+    let reached = c .before .before .before in
+    let ways = reached .before .before in
+    (scan-edges-span t ways .passable, λ e. (scan-edges-start t ways .args .q .alone, ways .before .none-beside .ensures e))
 
 scan-edges-returns-2 : (t : ℕ) → scan-edges-lts.Need-returns-2 (scan-edges-claims t) (scan-edges-at t) scan-edges.Post
 scan-edges-returns-2 t c =
     let found = c .before .before in
     let reached = found .before .before in
-    let b = reached .before .before .before .before in
-    let s = b .before .before .before in
+    let ways = reached .before .before in
+    let s = scan-edges-start t ways in
     let a = s .args in
-    scanned (edgesIn (a .q .«edge_count») (a .labels .now) (a .starts .now) (a .ends .now)) (at (a .lefts .now) (a .f))
-    (at (a .rights .now) (a .f))
-    (trueBelow (scan-edges-formulas t s) (scan-edges-context t s) (a .f))
-    (b .index .ensures .0) (reached .reached-from .ensures) (found .evaluate2 .ensures) (c .leading-to .ensures)
+    let l = at (a .lefts .now) (a .f) in
+    let es = edgesIn (a .q .«edge_count») (a .labels .now) (a .starts .now) (a .ends .now) in
+    let listed = scan-edges-span t ways .listed in
+    scanned es l (at (a .rights .now) (a .f)) (trueBelow (scan-edges-formulas t s) (scan-edges-context t s) (a .f))
+    (scan-edges-right t ways .index .ensures .0) (reached .reached-from .ensures (a .q .«edge_count») (a .labels .now) l listed)
+    (found .evaluate2 .ensures) (c .leading-to .ensures (a .q .«edge_count») (a .labels .now) l listed)
 
 pub +at-slot+connective+evaluate+keep-each+scan-edges-spec : {M : Type 1} → statement M
 +at-slot+connective+evaluate+keep-each+scan-edges-spec =
@@ -822,6 +899,7 @@ pub +at-slot+connective+evaluate+keep-each+scan-edges-spec : {M : Type 1} → st
     (scan-edges-at t)
     scan-edges.Post
     (scan-edges-element-copy-out-a t)
+    (scan-edges-positions-of-requires t)
     (scan-edges-element-copy-out-index t)
     (scan-edges-index-requires t)
     (scan-edges-none-beside-requires t)

@@ -53,8 +53,13 @@ returns-3 c =
     c .not-loaded3 .ensures
     ∙ ended-circle _ _ _ _ (c .before .before .before .if1 .left) (c .before .before .has-circles .ensures) (c .before .if2 .taken)
 
+with-index-requires : tie.Need-with-index-requires
+with-index-requires c κs = c .before .before .before .before .pre .1
+
 returns-4 : tie.Need-returns-4
-returns-4 c = ended-well _ _ _ _ (c .before .before .if1 .left) (c .before .has-circles .ensures) (c .if2 .left)
+returns-4 c =
+    let w = c .before in
+    ended-well _ _ _ _ (w .before .before .if1 .left) (w .before .has-circles .ensures) (w .if2 .left) (c .with-index .ensures)
 
 pub ended-spec : {M : Type 1} → statement M
 ended-spec =
@@ -72,4 +77,5 @@ ended-spec =
     has-circles-requires
     not-loaded-requires-3
     returns-3
+    with-index-requires
     returns-4)

@@ -18,13 +18,13 @@ use Rattle.memo.proofs.weigh.Tie as tie
 
 -- for any record with these principals
 abbrev Inv-loop : tie.InvT-loop
-Inv-loop edge-count labels sources targets ops lefts rights count formulas roles object requestor c m₀ p₀ m p =
+Inv-loop edge-count labels sources targets firsts counts places ops lefts rights count formulas roles object requestor c m₀ p₀ m p =
     ((rules : Record) → Principals count formulas rules
     → Left (truthIn (contextOf roles object requestor (edgesIn edge-count labels sources targets)) (formulasIn ops lefts rights)) rules c m₀ p m)
     × (p ≤ count)
 
 abbrev μ-loop : tie.MeasureT-loop
-μ-loop edge-count labels sources targets ops lefts rights count formulas roles object requestor c m₀ p₀ m p = count - p
+μ-loop edge-count labels sources targets firsts counts places ops lefts rights count formulas roles object requestor c m₀ p₀ m p = count - p
 
 -- inside the loop: the principal is one of so many, and its formula has an index in the memo
 module _ (i : tie.In-loop Inv-loop μ-loop) where

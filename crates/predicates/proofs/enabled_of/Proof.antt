@@ -7,8 +7,10 @@ use borrow.Author.Needs.{needs}
 use Rattle.common.specs.Limits.{mostPrincipals}
 use Rattle.common.specs.Lists.{at}
 use Rattle.common.specs.Sets.{In}
-use Rattle.policy.specs.Table.{user, edge, principal}
-use Rattle.policy.specs.LoadableLaws.{table-few}
+use Rattle.policy.specs.Table.{Kind, user, principal}
+use Rattle.policy.specs.Loadable.{tableLoads}
+use Rattle.policy.specs.LoadableLaws.{table-few, loadable-table}
+use Rattle.policy.specs.RecordIndexLaws.{loadable-indexed}
 use Rattle.formula.specs.Evaluation.{trueAtObject}
 use Rattle.justification.specs.EnabledLaws.{enabled-at}
 use Rattle.justification.specs.MarkedSets.{Those}
@@ -28,17 +30,21 @@ abbrev μ-loop : tie.MeasureT-loop
 abbrev entry : tie.At-loop Inv-loop μ-loop → tie.Start Inv-loop μ-loop
 entry a = a .before .before .before .before .before
 
-abbrev lent : tie.After-true-at-object-arg6 Inv-loop μ-loop → tie.After-index Inv-loop μ-loop
-lent c = c .before .before .before .before .before .before .before
+abbrev lent : tie.After-true-at-object-arg9 Inv-loop μ-loop → tie.After-index Inv-loop μ-loop
+lent c = c .before .before .before .before .before .before .before .before .before .before
 
 abbrev in-loop : tie.After-index Inv-loop μ-loop → tie.In-loop Inv-loop μ-loop
 in-loop c = c .before .before .before .before
 
+-- every table of the record loads
+tables : (s : tie.Start Inv-loop μ-loop) (k : Kind) → tableLoads (s .args .t1) k ≡ true
+tables s = loadable-table (s .args .t1) (s .pre)
+
 few : (i : tie.In-loop Inv-loop μ-loop) → i .before .loop .p < mostPrincipals
-few i = let n = table-few _ principal (entry (i .before) .pre principal) in omega (arith, i .loop-test .taken, n)
+few i = let n = table-few _ principal (tables (entry (i .before)) principal) in omega (arith, i .loop-test .taken, n)
 
 roles-of-requires : tie.Need-roles-of-requires Inv-loop μ-loop
-roles-of-requires c κs = let s = c .before .before .before in table-few _ user (s .pre user)
+roles-of-requires c κs = let s = c .before .before .before in table-few _ user (tables s user)
 
 loop-holds : tie.Need-loop-holds Inv-loop μ-loop
 loop-holds c = (those-none _, omega arith)
@@ -56,7 +62,7 @@ index-requires : tie.Need-index-requires Inv-loop μ-loop
 index-requires c κs = search needs
 
 true-at-object-requires : tie.Need-true-at-object-requires Inv-loop μ-loop
-true-at-object-requires c κs = table-few _ edge (entry (in-loop (lent c) .before) .pre edge)
+true-at-object-requires c κs = let s = entry (in-loop (lent c) .before) in loadable-indexed (s .args .t1) (s .pre)
 
 marked-requires : tie.Need-marked-requires Inv-loop μ-loop
 marked-requires c κs = few (in-loop (lent (c .before)))
@@ -99,7 +105,7 @@ returns c =
     let r = s .args .t1 in
     let q = s .args .question in
     let roles = a .before .roles-of .result in
-    let same = enabled-at r q roles (s .pre) (a .before .roles-of .ensures) in
+    let same = enabled-at r q roles (tables s) (a .before .roles-of .ensures) in
     let found = those-end {n = r .«principal_count»} (omega (arith, c .loop-test .left, a .loop .inv .1)) (a .loop .inv .0) in
     record {
       only = λ p i. let (l, x) = found .only p i in (l, (x .0, sym (same p l) ∙ x .1));

@@ -69,7 +69,7 @@ meeting-requires : tie.Need-meeting-requires
 meeting-requires c κs = table-few _ principal (tables (indexed c) principal)
 
 enabled-of-requires : tie.Need-enabled-of-requires
-enabled-of-requires c κs = tables (indexed (c .before))
+enabled-of-requires c κs = may (indexed (c .before)) .loads
 
 gathered-requires : tie.Need-gathered-requires
 gathered-requires c κs = table-few _ principal (tables (indexed (c .before .before)) principal)

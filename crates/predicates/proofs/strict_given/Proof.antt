@@ -72,7 +72,7 @@ meeting-requires : tie.Need-meeting-requires
 meeting-requires c κs = table-few _ principal (tables (indexed (c .before)) principal)
 
 enabled-of-requires : tie.Need-enabled-of-requires
-enabled-of-requires c κs = tables (indexed (c .before .before))
+enabled-of-requires c κs = may (indexed (c .before .before)) .loads
 
 returns-2 : tie.Need-returns-2
 returns-2 c =

@@ -9,10 +9,10 @@ use Rattle.record_columns.proofs.number_at.Reads as number-at-reads
 use Rattle.record_columns.proofs.same_counts.Reads as same-counts-reads
 
 abbrev Inv-loop : tie.InvT-loop
-Inv-loop a b same₀ n₀ same n = n ≤ 10752
+Inv-loop a b same₀ n₀ same n = n ≤ 12288
 
 abbrev μ-loop : tie.MeasureT-loop
-μ-loop a b same₀ n₀ same n = 10752 - n
+μ-loop a b same₀ n₀ same n = 12288 - n
 
 -- src/lib.rt:161:9
 same-counts-requires : tie.Need-same-counts-requires Inv-loop μ-loop

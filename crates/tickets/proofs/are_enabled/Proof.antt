@@ -9,8 +9,10 @@ use borrow.Author.Tests.{not-true, not-false}
 use Rattle.common.specs.Limits.{mostPrincipals}
 use Rattle.common.specs.Lists.{at}
 use Rattle.common.specs.Sets.{In}
-use Rattle.policy.specs.Table.{user, edge, principal}
-use Rattle.policy.specs.LoadableLaws.{table-few}
+use Rattle.policy.specs.Table.{Kind, user, principal}
+use Rattle.policy.specs.Loadable.{tableLoads}
+use Rattle.policy.specs.LoadableLaws.{table-few, loadable-table}
+use Rattle.policy.specs.RecordIndexLaws.{loadable-indexed}
 use Rattle.formula.specs.Evaluation.{trueAtObject}
 use Rattle.justification.specs.EnabledLaws.{enabled-at}
 use Rattle.tickets.proofs.Checking.{one-not-enabled, all-enabled}
@@ -29,14 +31,18 @@ abbrev μ-loop : tie.MeasureT-loop
 abbrev entry : tie.At-loop Inv-loop μ-loop → tie.Start Inv-loop μ-loop
 entry a = a .before .before .before .before .before
 
-abbrev lent : tie.After-true-at-object-arg6 Inv-loop μ-loop → tie.After-index Inv-loop μ-loop
-lent c = c .before .before .before .before .before .before .before
+abbrev lent : tie.After-true-at-object-arg9 Inv-loop μ-loop → tie.After-index Inv-loop μ-loop
+lent c = c .before .before .before .before .before .before .before .before .before .before
 
 abbrev in-loop : tie.After-index Inv-loop μ-loop → tie.In-loop Inv-loop μ-loop
 in-loop c = c .before .before .before .before
 
+-- every table of the record loads
+tables : (s : tie.Start Inv-loop μ-loop) (k : Kind) → tableLoads (s .args .t1) k ≡ true
+tables s = loadable-table (s .args .t1) (s .pre)
+
 few : (i : tie.In-loop Inv-loop μ-loop) → i .before .loop .p < mostPrincipals
-few i = let n = table-few _ principal (entry (i .before) .pre principal) in omega (arith, i .loop-test .taken, n)
+few i = let n = table-few _ principal (tables (entry (i .before)) principal) in omega (arith, i .loop-test .taken, n)
 
 -- what was found at p is whether p's formula is true
 value-is : (t : tie.After-true-at-object Inv-loop μ-loop) → let i = in-loop (lent (t .before)) in let a = entry (i .before) .args in
@@ -51,7 +57,7 @@ value-is t =
     (x .index .ensures)
 
 roles-of-requires : tie.Need-roles-of-requires Inv-loop μ-loop
-roles-of-requires c κs = let s = c .before .before .before in table-few _ user (s .pre user)
+roles-of-requires c κs = let s = c .before .before .before in table-few _ user (tables s user)
 
 loop-holds : tie.Need-loop-holds Inv-loop μ-loop
 loop-holds c = (below-none _, omega arith)
@@ -69,7 +75,7 @@ index-requires : tie.Need-index-requires Inv-loop μ-loop
 index-requires c κs = search needs
 
 true-at-object-requires : tie.Need-true-at-object-requires Inv-loop μ-loop
-true-at-object-requires c κs = table-few _ edge (entry (in-loop (lent c) .before) .pre edge)
+true-at-object-requires c κs = let s = entry (in-loop (lent c) .before) in loadable-indexed (s .args .t1) (s .pre)
 
 returns : tie.Need-returns Inv-loop μ-loop
 returns c =
@@ -80,7 +86,7 @@ returns c =
     let h = x .before .before .before in
     one-not-enabled (s .args .t1) (s .args .question) _ (i .before .loop .p) (i .loop-test .taken)
     (h .has .ensures .yes (x .before .before .if1 .taken))
-    (sym (enabled-at (s .args .t1) (s .args .question) _ (s .pre) (i .before .before .roles-of .ensures) _ (i .loop-test .taken))
+    (sym (enabled-at (s .args .t1) (s .args .question) _ (tables s) (i .before .before .roles-of .ensures) _ (i .loop-test .taken))
     ∙ sym (value-is t) ∙ not-true _ (c .if2 .taken))
 
 loop-less : tie.Need-loop-less Inv-loop μ-loop
@@ -110,7 +116,7 @@ returns-2 c =
     let s = entry a in
     let r = s .args .t1 in
     let q = s .args .question in
-    all-enabled r q _ (λ p l i. sym (enabled-at r q _ (s .pre) (a .before .roles-of .ensures) p l)
+    all-enabled r q _ (λ p l i. sym (enabled-at r q _ (tables s) (a .before .roles-of .ensures) p l)
     ∙ a .loop .inv .0 p (omega (arith, c .loop-test .left, l)) i)
 
 pub are-enabled-spec : {M : Type 1} → statement M

@@ -1,15 +1,18 @@
 -- `check_given` meets its contract.
 use Prim.Native.Nat.{ℕ, _^_, _<_}
-use mathlib.Core.Path.{_≡_, sym, _∙_, ap, subst}
+use mathlib.Core.Path.{_≡_, refl, sym, _∙_, ap, subst}
 use mathlib.Core.Bool.{true}
 use native.Mathlib.Omega.{arith}
 use lib.Dec.{ltb}
 use borrow.Author.Needs.{needs}
 use borrow.Author.Tests.{not-true, not-false, ltb-true}
+use Rattle.policy.specs.declared.Record.{Record}
 use Rattle.policy.specs.Loadable.{tableLoads}
 use Rattle.policy.specs.LoadableLaws.{table-few, loadable-table}
 use Rattle.policy.specs.Table.{Kind, principal}
 use Rattle.justification.specs.Predicates.{questionRefusal}
+use Rattle.justification.specs.Masked.{Masked}
+use Rattle.justification.specs.GuardLaws.{masks-fit}
 use Rattle.justification.proofs.Asking.{Asked, asked, refusal-is, few-users}
 use Rattle.tickets.specs.Tickets.{constraintRefusal}
 use Rattle.tickets.proofs.Checking.{refused-question, no-principal, not-enabled, constrained}
@@ -63,7 +66,7 @@ module _ (c : tie.Else2) where
   small = sym (c .before .are-principals .ensures) ∙ not-false _ (c .if2 .left)
 
 are-enabled-requires : tie.Need-are-enabled-requires
-are-enabled-requires c κs = tables (c .before .before)
+are-enabled-requires c κs = may (c .before .before) .loads
 
 returns-3 : tie.Need-returns-3
 returns-3 c =
@@ -79,27 +82,44 @@ index-requires c κs = search needs
 abbrev passed : tie.After-index → tie.Else2
 passed c = c .before .before .before
 
+-- the method's index, from where the columns were lent
+abbrev lent : tie.After-masks-of-arg10 → tie.After-index
+lent c = c .before .before .before .before .before .before .before .before .before .before .before
+
 masks-of-requires : tie.Need-masks-of-requires
 masks-of-requires c κs =
-    let h = passed c .before .before in (tables h, omega (arith, c .index .ensures, may h .method))
+    let i = lent c in
+    let h = passed i .before .before in
+    masks-fit (start h .args .t1) (i .index .result) (tables h) (omega (arith, i .index .ensures, may h .method))
+
+-- where the masks are made
+module _ (k : tie.After-masks-of) where
+  abbrev indexed : tie.After-index
+  indexed = lent (k .before)
+
+  abbrev rules : Record
+  rules = known (passed indexed) .args .t1
+
+  masked : Masked rules (indexed .index .result) 0 (k .masks-of .result)
+  masked = k .masks-of .ensures rules refl
 
 constraint-refusal-requires : tie.Need-constraint-refusal-requires
 constraint-refusal-requires c κs =
-    let e = passed (c .before) in
-    let s = known e in
-    let k = c .masks-of .ensures in (
+    let e = passed (indexed c) in
+    let k = masked c in (
       omega (arith, k .count, k .few),
-      subst (λ (n : ℕ). s .args .ticket .set < 2 ^ n) (sym (k .count)) (ltb-true _ _ (small e)),
+      subst (λ (n : ℕ). known e .args .ticket .set < 2 ^ n) (sym (k .count)) (ltb-true _ _ (small e)),
     )
 
 returns-4 : tie.Need-returns-4
 returns-4 c =
     let m = c .before in
-    let e = passed (m .before) in
+    let i = indexed m in
+    let e = passed i in
     let s = known e in
-    let a = m .before .before in
-    c .constraint-refusal .ensures (s .args .t1) (m .before .index .result) 0 (m .masks-of .ensures)
-    ∙ ap (λ (n : ℕ). constraintRefusal (s .args .t1) n (s .args .ticket .set)) (m .before .index .ensures)
+    let a = i .before in
+    c .constraint-refusal .ensures (s .args .t1) (i .index .result) 0 (masked m)
+    ∙ ap (λ (n : ℕ). constraintRefusal (s .args .t1) n (s .args .ticket .set)) (i .index .ensures)
     ∙ constrained (s .args .t1) (s .args .ticket) (put (e .before .before)) (small e)
     (sym (a .before .are-enabled .ensures) ∙ not-false _ (a .if3 .left))
 

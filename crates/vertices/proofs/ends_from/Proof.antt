@@ -1,29 +1,35 @@
 -- `ends_from` meets its contract.
-use Prim.Native.Nat.{ℕ, _-_, _<_, _≤_}
-use mathlib.Core.Path.{_≡_}
+use Prim.Native.Nat.{_-_, _≤_}
+use mathlib.Core.Path.{ap, sym, _∙_}
 use native.Mathlib.Omega.{arith}
-use lib.ListN.{length, length-set}
-use Rattle.vertices.specs.Steps.{leads, isIn, edgesIn}
-use Rattle.vertices.proofs.VertexSets.{end-taken, end-passed}
+use Rattle.common.specs.Lists.{at}
+use Rattle.vertices.specs.Steps.{isIn}
+use Rattle.vertices.specs.Passes.{vertexAt, Marked}
+use Rattle.vertices.proofs.Marking.{marked-none, marked-taken, marked-passed, marked-to-the-end}
 use borrow.Author.Needs.{needs}
 use Rattle.vertices.proofs.ends_from.Statement.{statement}
 use Rattle.vertices.proofs.ends_from.Tie as tie
 
 abbrev Inv-loop : tie.InvT-loop
-Inv-loop n labels label starts ends asked r₀ i₀ r i =
-    ((v : ℕ) → isIn r v ≡ leads (edgesIn i labels starts ends) 2 1 label (isIn asked) v) × (length r ≡ 256) × (i ≤ n)
+Inv-loop starts ends places backward first stop asked r₀ p₀ r p =
+    Marked (λ q. isIn asked (vertexAt starts backward places q)) (vertexAt ends backward places) first stop p r × (first ≤ p)
 
 abbrev μ-loop : tie.MeasureT-loop
-μ-loop n labels label starts ends asked r₀ i₀ r i = n - i
+μ-loop starts ends places backward first stop asked r₀ p₀ r p = stop - p
 
 none-requires : tie.Need-none-requires Inv-loop μ-loop
 none-requires c κs = search needs
 
 loop-holds : tie.Need-loop-holds Inv-loop μ-loop
-loop-holds c = (c .none .ensures .1, c .none .ensures .0, omega arith)
+loop-holds c = (marked-none (c .none .ensures) (λ q a b. absurd (omega arith)), omega arith)
 
-add-i : tie.Need-add-i Inv-loop μ-loop
-add-i c = search needs
+edge-at-requires : tie.Need-edge-at-requires Inv-loop μ-loop
+edge-at-requires c κs =
+    let l = c .before in
+    (omega arith, l .before .before .pre .within (l .loop .p) (l .loop .inv .1) (c .loop-test .taken))
+
+add-p : tie.Need-add-p Inv-loop μ-loop
+add-p c = search needs
 
 element-copy-out-index : tie.Need-element-copy-out-index Inv-loop μ-loop
 element-copy-out-index c = search needs
@@ -33,9 +39,6 @@ index-requires c κs = search needs
 
 element-copy-out-if1 : tie.Need-element-copy-out-if1 Inv-loop μ-loop
 element-copy-out-if1 c = search needs
-
-element-copy-out-if1-2 : tie.Need-element-copy-out-if1-2 Inv-loop μ-loop
-element-copy-out-if1-2 c = search needs
 
 element-copy-out-index-2 : tie.Need-element-copy-out-index-2 Inv-loop μ-loop
 element-copy-out-index-2 c = search needs
@@ -52,13 +55,15 @@ loop-less c = search needs
 loop-again : tie.Need-loop-again Inv-loop μ-loop
 loop-again c =
     let taken = c .before .before in
-    let x = taken .before .before .before in
-    let l = x .before .before .before in
+    let y = c .index2 in
+    let x = taken .before .before in
+    let edge = x .before .before in
+    let l = edge .before .before in
     let a = l .before .before .args in
-    let h : c .index2 .result < length (l .loop .r) = omega arith in (
-      λ v. end-taken (a .labels .now) (a .starts .now) (a .ends .now) (a .label) (isIn (a .asked .now)) (l .loop .r) (l .loop .i)
-          (x .index .result) (x .index .ensures .0) v (l .loop .inv .0 v) (c .index2 .result) (c .index2 .ensures .0) h (taken .if1 .taken),
-      simp length-set (l .loop .inv .1),
+    let start = x .index .ensures .0 ∙ ap (at (a .starts .now)) (edge .edge-at .ensures .0) in
+    let end = y .ensures .0 ∙ ap (at (a .ends .now)) (edge .edge-at .ensures .0) in (
+      marked-taken (l .loop .inv .0) (y .result) end (y .ensures .1) (l .loop .inv .1) (edge .before .loop-test .taken)
+          (ap (isIn (a .asked .now)) (sym start) ∙ taken .if1 .taken),
       omega arith,
     )
 
@@ -67,19 +72,17 @@ loop-less-2 c = search needs
 
 loop-again-2 : tie.Need-loop-again-2 Inv-loop μ-loop
 loop-again-2 c =
-    let x = c .before .before .before in
-    let l = x .before .before .before in
-    let a = l .before .before .args in (
-      λ v. end-passed (a .labels .now) (a .starts .now) (a .ends .now) (a .label) (isIn (a .asked .now)) (l .loop .r) (l .loop .i)
-          (x .index .result) (x .index .ensures .0) v (l .loop .inv .0 v) (c .if1 .left),
-      l .loop .inv .1,
-      omega arith,
-    )
+    let x = c .before .before in
+    let edge = x .before .before in
+    let l = edge .before .before in
+    let a = l .before .before .args in
+    let start = x .index .ensures .0 ∙ ap (at (a .starts .now)) (edge .edge-at .ensures .0) in
+    (marked-passed (l .loop .inv .0) (ap (isIn (a .asked .now)) (sym start) ∙ c .if1 .left), omega arith)
 
 returns : tie.Need-returns Inv-loop μ-loop
 returns c =
-    let e : c .before .loop .i ≡ c .before .before .before .args .n = omega arith in
-    λ v. rw (← e) (c .before .loop .inv .0 v)
+    let l = c .before in
+    marked-to-the-end (l .loop .inv .0) (λ q a b. absurd (omega arith))
 
 pub ends-from-spec : {M : Type 1} → statement M
 ends-from-spec =
@@ -89,11 +92,11 @@ ends-from-spec =
     μ-loop
     none-requires
     loop-holds
-    add-i
+    edge-at-requires
+    add-p
     element-copy-out-index
     index-requires
     element-copy-out-if1
-    element-copy-out-if1-2
     element-copy-out-index-2
     index-requires-2
     array-write-r

@@ -1,36 +1,53 @@
 -- `ends_of` meets its contract.
-use Prim.Native.Nat.{ℕ, _-_, _<_, _≤_}
-use mathlib.Core.Path.{_≡_, refl}
+use Prim.Native.Nat.{_-_, _≤_}
+use mathlib.Core.Path.{ap, sym, _∙_}
 use native.Mathlib.Omega.{arith}
-use lib.ListN.{length, length-set}
 use lib.Dec.{eqb}
-use Rattle.vertices.specs.Steps.{leads, isIn, edgesIn}
-use Rattle.vertices.proofs.VertexSets.{end-taken, end-passed}
+use borrow.Author.Tests.{eq-eqb}
+use Rattle.common.specs.Lists.{at}
+use Rattle.vertices.specs.Passes.{vertexAt, Marked}
+use Rattle.vertices.proofs.Marking.{marked-none, marked-taken, marked-to-the-end}
+use Rattle.vertices.proofs.Halving.{none-below, none-after}
 use borrow.Author.Needs.{needs}
 use Rattle.vertices.proofs.ends_of.Statement.{statement}
 use Rattle.vertices.proofs.ends_of.Tie as tie
 
 abbrev Inv-loop : tie.InvT-loop
-Inv-loop n labels label starts ends x r₀ i₀ r i =
-    ((v : ℕ) → isIn r v ≡ leads (edgesIn i labels starts ends) 2 1 label (λ u. eqb u x) v) × (length r ≡ 256) × (i ≤ n)
+Inv-loop starts ends places backward first stop x r₀ p₀ r p =
+    Marked (λ q. eqb (vertexAt starts backward places q) x) (vertexAt ends backward places) first stop p r × (p₀ ≤ p)
 
 abbrev μ-loop : tie.MeasureT-loop
-μ-loop n labels label starts ends x r₀ i₀ r i = n - i
+μ-loop starts ends places backward first stop x r₀ p₀ r p = stop - p
 
 none-requires : tie.Need-none-requires Inv-loop μ-loop
 none-requires c κs = search needs
 
-loop-holds : tie.Need-loop-holds Inv-loop μ-loop
-loop-holds c = (c .none .ensures .1, c .none .ensures .0, omega arith)
+first-from-requires : tie.Need-first-from-requires Inv-loop μ-loop
+first-from-requires c κs = search needs
 
-add-i : tie.Need-add-i Inv-loop μ-loop
-add-i c = search needs
+loop-holds : tie.Need-loop-holds Inv-loop μ-loop
+loop-holds c = (marked-none (c .before .none .ensures) (none-below (c .before .before .pre) (c .first-from .ensures)), omega arith)
+
+edge-at-requires : tie.Need-edge-at-requires Inv-loop μ-loop
+edge-at-requires c κs =
+    let l = c .before in
+    (omega arith, l .before .before .before .pre .within (l .loop .p) (omega arith) (c .loop-test .taken))
+
+add-p : tie.Need-add-p Inv-loop μ-loop
+add-p c = search needs
 
 element-copy-out-if1 : tie.Need-element-copy-out-if1 Inv-loop μ-loop
 element-copy-out-if1 c = search needs
 
-element-copy-out-if1-2 : tie.Need-element-copy-out-if1-2 Inv-loop μ-loop
-element-copy-out-if1-2 c = search needs
+returns : tie.Need-returns Inv-loop μ-loop
+returns c =
+    let edge = c .before .before in
+    let l = edge .before .before in
+    let begin = l .before in
+    let s = begin .before .before in
+    let start = ap (at (s .args .starts .now)) (edge .edge-at .ensures .0) in
+    marked-to-the-end (l .loop .inv .0)
+    (none-after (s .pre) (begin .first-from .ensures) (l .loop .p) (l .loop .inv .1) (λ e. c .if1 .taken (start ∙ e)))
 
 element-copy-out-index : tie.Need-element-copy-out-index Inv-loop μ-loop
 element-copy-out-index c = search needs
@@ -46,35 +63,19 @@ loop-less c = search needs
 
 loop-again : tie.Need-loop-again Inv-loop μ-loop
 loop-again c =
-    let taken = c .before .before in
-    let l = taken .before .before .before .before in
-    let a = l .before .before .args in
-    let h : c .index .result < length (l .loop .r) = omega arith in (
-      λ v. end-taken (a .labels .now) (a .starts .now) (a .ends .now) (a .label) (λ u. eqb u (a .x)) (l .loop .r) (l .loop .i) _ refl v
-          (l .loop .inv .0 v)
-          (c .index .result) (c .index .ensures .0) h (taken .if1 .taken),
-      simp length-set (l .loop .inv .1),
+    let same = c .before .before in
+    let edge = same .before .before in
+    let l = edge .before .before in
+    let a = l .before .before .before .args in
+    let start = ap (at (a .starts .now)) (edge .edge-at .ensures .0) in
+    let end = c .index .ensures .0 ∙ ap (at (a .ends .now)) (edge .edge-at .ensures .0) in (
+      marked-taken (l .loop .inv .0) (c .index .result) end (c .index .ensures .1) (omega arith) (edge .before .loop-test .taken)
+          (eq-eqb _ (a .x) (sym start ∙ same .if1 .left)),
       omega arith,
     )
 
-loop-less-2 : tie.Need-loop-less-2 Inv-loop μ-loop
-loop-less-2 c = search needs
-
-loop-again-2 : tie.Need-loop-again-2 Inv-loop μ-loop
-loop-again-2 c =
-    let l = c .before .before .before .before in
-    let a = l .before .before .args in (
-      λ v. end-passed (a .labels .now) (a .starts .now) (a .ends .now) (a .label) (λ u. eqb u (a .x)) (l .loop .r) (l .loop .i) _ refl v
-          (l .loop .inv .0 v)
-          (c .if1 .left),
-      l .loop .inv .1,
-      omega arith,
-    )
-
-returns : tie.Need-returns Inv-loop μ-loop
-returns c =
-    let e : c .before .loop .i ≡ c .before .before .before .args .n = omega arith in
-    λ v. rw (← e) (c .before .loop .inv .0 v)
+returns-2 : tie.Need-returns-2 Inv-loop μ-loop
+returns-2 c = marked-to-the-end (c .before .loop .inv .0) (λ q a b. absurd (omega arith))
 
 pub ends-of-spec : {M : Type 1} → statement M
 ends-of-spec =
@@ -83,15 +84,15 @@ ends-of-spec =
     Inv-loop
     μ-loop
     none-requires
+    first-from-requires
     loop-holds
-    add-i
+    edge-at-requires
+    add-p
     element-copy-out-if1
-    element-copy-out-if1-2
+    returns
     element-copy-out-index
     index-requires
     array-write-r
     loop-less
     loop-again
-    loop-less-2
-    loop-again-2
-    returns)
+    returns-2)

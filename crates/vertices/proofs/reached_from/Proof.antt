@@ -2,9 +2,11 @@
 use mathlib.Core.Path.{_≡_, sym, ap, _∙_}
 use mathlib.Core.Bool.{true}
 use Prim.Native.Nat.{ℕ}
+use lib.Dec.{eqb}
 use borrow.Author.Needs.{needs}
 use Rattle.vertices.specs.Steps.{leads, isIn, edgesIn}
 use Rattle.vertices.proofs.OneVertex.{just-asked, none-asked, none-leads}
+use Rattle.vertices.proofs.Marking.{ends-marked}
 use Rattle.vertices.proofs.reached_from.Statement.{statement}
 use Rattle.vertices.proofs.reached_from.Tie as tie
 
@@ -30,8 +32,8 @@ returns c =
     let one = c .before .before .before in
     let a = start one .args in
     let x-asked = sym (ap (isIn (a .asked .now)) (one .before .index .ensures .0)) ∙ c .before .if2 .taken in
-    λ v. c .ends-of .ensures v
-    ∙ (λ j. leads (edgesIn (a .n) (a .labels .now) (a .starts .now) (a .ends .now)) 2 1 (a .label)
+    λ n labels l listed v. ends-marked (a .starts .now) (a .ends .now) listed (λ u. eqb u (a .x)) (c .ends-of .ensures) v
+    ∙ (λ j. leads (edgesIn n labels (a .starts .now) (a .ends .now)) 2 1 l
     (λ u. sym (just-asked (a .asked .now) (a .x) (only one) x-asked u) j) v)
 
 none-requires : tie.Need-none-requires
@@ -42,15 +44,17 @@ returns-2 c =
     let one = c .before .before .before in
     let a = start one .args in
     let not-asked = sym (ap (isIn (a .asked .now)) (one .before .index .ensures .0)) ∙ c .before .if2 .left in
-    λ v. c .none .ensures .1 v
-    ∙ sym (none-leads (edgesIn (a .n) (a .labels .now) (a .starts .now) (a .ends .now)) 2 1 (a .label) (isIn (a .asked .now)) v
+    λ n labels l listed v. c .none .ensures .1 v
+    ∙ sym (none-leads (edgesIn n labels (a .starts .now) (a .ends .now)) 2 1 l (isIn (a .asked .now)) v
     (none-asked (a .asked .now) (a .x) (only one) not-asked))
 
 ends-from-requires : tie.Need-ends-from-requires
 ends-from-requires c κs = search needs
 
 returns-3 : tie.Need-returns-3
-returns-3 c = search needs
+returns-3 c =
+    let a = c .before .before .before .args in
+    λ n labels l listed v. ends-marked (a .starts .now) (a .ends .now) listed (isIn (a .asked .now)) (c .ends-from .ensures) v
 
 pub reached-from-spec : {M : Type 1} → statement M
 reached-from-spec =

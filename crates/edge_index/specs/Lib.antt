@@ -1,0 +1,12 @@
+pub mod Index
+pub mod Shifts
+pub mod CountLaws
+pub mod OrderLaws
+pub mod Deals
+pub mod IndexLaws
+pub mod LessLaws
+pub mod Agreement
+pub mod RangeLaws
+pub mod Spans
+pub mod SpanLaws
+pub mod IndexExample
