@@ -9,7 +9,7 @@
  *     pointer beside it, whatever it is, NULL included.
  *   - Buffers do not overlap: out has no byte of bundle, answers has none of bundle and none of calls.
  *   - Nobody else changes bundle or calls, or uses out or answers, before the function returns.
- *   - The calling thread has 256 kB of stack (measured on x86-64: 114 kB at most).
+ *   - The calling thread has 256 kB of stack (measured on x86-64: 118 kB at most).
  *
  * What the caller may rely on: nothing is allocated, and nothing is kept between calls but in the record that a caller lends (further
  * down), so there is nothing to free. Any thread may call with its own buffers; bundle and calls may be lent to several calls at once,

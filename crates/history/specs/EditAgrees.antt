@@ -10,7 +10,7 @@ use borrow.Author.Tests.{eqb-true}
 use Rattle.common.specs.Limits.{mostEdges}
 use Rattle.common.specs.Lists.{same}
 use Rattle.common.specs.ListLaws.{length-table, same-is}
-use Rattle.common.specs.BoolLaws.{and-cases, and-false}
+use Rattle.common.specs.BoolLaws.{and-false}
 use Rattle.common.specs.Causes.{cause, first}
 use Rattle.common.specs.Refusals.{edgeOutOfRange, edgePresent, edgeAbsent, edgesFull, notLoadable}
 use Rattle.rows.specs.Checks.{edgeInRange, edgeKey}

@@ -1,7 +1,7 @@
 -- Request 2026-04: "From a loaded bundle, after every list of edits the index is the one that building anew would give."
 use Prim.Native.Nat.{ℕ}
-use mathlib.Core.Path.{_≡_, refl, sym, _∙_, subst}
-use mathlib.Core.List.{List, [], _∷_}
+use mathlib.Core.Path.{_≡_, sym, subst}
+use mathlib.Core.List.{List}
 use Rattle.edge_index.specs.Index.{Indexes}
 use Rattle.edge_index.specs.IndexLaws.{indexes-of}
 use Rattle.policy.specs.declared.Record.{Record}
@@ -9,8 +9,7 @@ use Rattle.policy.specs.Table.{edge, rows, indexOf, indexed}
 use Rattle.policy.specs.LoadableLaws.{own-index}
 use Rattle.policy.specs.RecordIndexLaws.{loadable-indexed, built-anew}
 use Rattle.reading.specs.Loading.{load}
-use Rattle.history.specs.Book.{Call, firstBook, bookAfter, engineAfter}
-use Rattle.history.specs.Agrees.{Agrees}
+use Rattle.history.specs.Book.{Call, firstBook, engineAfter}
 use Rattle.history.specs.Theorem.{start, list-agrees}
 
 -- the record's index is the one of its edges: as `indexOf` builds it from their list, as loading builds it into a record, and by what holds
@@ -29,5 +28,6 @@ index-anew text e calls =
     record {
       built = own-index r loads;
       loaded = built-anew r loads;
-      indexes = subst (Indexes (r .«edge_count») (r .«edge_labels») (r .«edge_sources») (r .«edge_targets»)) (sym (i .index)) (indexes-of (i .rises));
+      indexes =
+          subst (Indexes (r .«edge_count») (r .«edge_labels») (r .«edge_sources») (r .«edge_targets»)) (sym (i .index)) (indexes-of (i .rises));
     }

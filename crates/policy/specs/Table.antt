@@ -1,7 +1,7 @@
 -- The record: every kind of line is a table, a count and a column for each number of the line's body, in the order of the lines.
-use Prim.Native.Nat.{ℕ, _+_, _-_}
+use Prim.Native.Nat.{ℕ, _+_}
 use mathlib.Core.Bool.{Bool, false, cond}
-use mathlib.Core.List.{List, [], _∷_, _++_, map}
+use mathlib.Core.List.{List, [], _∷_, map}
 use lib.ListN.{length, set, replicate}
 use lib.Dec.{eqb}
 use Rattle.common.specs.Limits.{mostUsers, mostEdges, mostFormulas, mostDemarcations, mostPrincipals, mostMethods, mostPairs}

@@ -1,6 +1,5 @@
 -- `with_index` meets its contract: the tables load, so that the edges' columns are such as an index is made of.
 use mathlib.Core.Path.{_∙_, sym, ap}
-use borrow.Author.Needs.{needs}
 use Rattle.policy.specs.Table.{edge, head, withIndex}
 use Rattle.policy.specs.LoadableLaws.{head-range}
 use Rattle.policy.specs.RecordIndexLaws.{index-columns, edges-rise}
