@@ -1,4 +1,4 @@
 pub mod SlotNumbers
 pub mod SlotReads
-pub mod Recursion
 pub mod RequestorRoles
+pub mod Places

@@ -1,5 +1,5 @@
 -- What the evaluation's functions answer: sets of vertices as tables of bools, on edges, formulas and users lent column by column.
-use Prim.Native.Nat.{ℕ}
+use Prim.Native.Nat.{ℕ, _≤_, _<_}
 use mathlib.Core.Path.{_≡_}
 use mathlib.Core.Bool.{Bool, cond, _&&_}
 use mathlib.Core.List.{List, [], _∷_, map}
@@ -11,7 +11,7 @@ use Rattle.common.specs.Sets.{member}
 use Rattle.rows.specs.Op.{opOf}
 use Rattle.policy.specs.declared.Record.{Record}
 use Rattle.policy.specs.Table.{edge, rows}
-use Rattle.vertices.specs.Steps.{edgesIn}
+use Rattle.vertices.specs.Steps.{edgesIn, placed}
 use Rattle.formula.specs.declared.ContextNumbers.{ContextNumbers}
 use Rattle.formula.specs.Formula.{Context, Formulas, Slot, unset, holding, allUnset, meaning, trueBelow, formulasOf}
 
@@ -49,6 +49,18 @@ formulaAt fs c f v = meaning c (opOf (at (fs .ops) f)) (at (fs .lefts) f) (at (f
 pub record Direction (backward : Bool) (from to starts ends : List ℕ) : Type 0 where
   pub start : starts ≡ cond backward to from
   pub end : ends ≡ cond backward from to
+
+-- r is where a formula (op, a, b) without parts is true; above 257 where it has parts
+pub record PlaceOf (q : ContextNumbers) (op a r : ℕ) : Type 0 where
+  pub parts : 257 < r → (4 ≤ op) × (op ≤ 11) × (op ≡ 10 → ⊥)
+  pub place : r ≤ 257 → (labels from to : List ℕ) (b : ℕ) (part : Context → ℕ → ℕ → Bool) (v : ℕ)
+      → placed r v ≡ meaning (contextIn q labels from to) (opOf op) a b part v
+
+-- r is where formula f is true, if it is below n and has no parts, or is not below n; above 257 where it has parts
+pub record PlaceBelow (q : ContextNumbers) (ops lefts : List ℕ) (n f r : ℕ) : Type 0 where
+  pub parts : 257 < r → (f < n) × (4 ≤ at ops f) × (at ops f ≤ 11) × (at ops f ≡ 10 → ⊥)
+  pub place : r ≤ 257 → (labels from to rights : List ℕ) (v : ℕ)
+      → placed r v ≡ trueBelow (formulasIn ops lefts rights) (contextIn q labels from to) n f v
 
 -- what `true_at_object` answers on a record's columns, where the requestor s holds the roles
 abbrev pub trueAtObject : Record → ℕ → ℕ → ℕ → ℕ → Bool

@@ -69,7 +69,7 @@ fn evaluated<'a>(
     if memo.known[f] {
         return memo;
     }
-    let value = formula::true_at_object(
+    let value = evaluation::true_at_object(
         edge_count,
         labels,
         sources,

@@ -60,7 +60,7 @@ pub fn enabled_of(rules: Record, question: Question, among: u32) -> u32
         p += 1;
         if search::has(among, member) {
             let f = index(rules.principal_formulas[member]);
-            let value = formula::true_at_object(
+            let value = evaluation::true_at_object(
                 rules.edge_count,
                 &rules.edge_labels,
                 &rules.edge_sources,

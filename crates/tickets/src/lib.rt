@@ -59,7 +59,7 @@ fn are_enabled(rules: Record, question: Question, set: u32) -> bool
         p += 1;
         if search::has(set, member) {
             let f = index(rules.principal_formulas[member]);
-            let value = formula::true_at_object(
+            let value = evaluation::true_at_object(
                 rules.edge_count,
                 &rules.edge_labels,
                 &rules.edge_sources,

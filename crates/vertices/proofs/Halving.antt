@@ -1,11 +1,9 @@
 -- The edges of one vertex stand together: none starts at it before the position that halving finds, nor after one that does not.
 use Prim.Native.Nat.{ℕ, _≤_, _<_}
 use mathlib.Core.Path.{_≡_}
-use mathlib.Core.Bool.{Bool, false}
+use mathlib.Core.Bool.{Bool}
 use mathlib.Core.List.{List}
 use native.Mathlib.Omega.{arith}
-use lib.Dec.{eqb}
-use borrow.Author.Tests.{ne-eqb}
 use Rattle.common.specs.Halving.{Parted, not-falling}
 use Rattle.edge_index.specs.Spans.{Passable}
 use Rattle.vertices.specs.Passes.{vertexAt}
@@ -15,12 +13,10 @@ module _ {starts places : List ℕ} {backward : Bool} {first stop : ℕ} (h : Pa
   vertex = vertexAt starts backward places
 
   -- before the first position of x no vertex is x
-  pub none-below : {x low high : ℕ} → Parted vertex x first stop low high → (q : ℕ) → first ≤ q → q < low → eqb (vertex q) x ≡ false
-  none-below {x} m q a b = ne-eqb (vertex q) x (λ e. omega (arith, m .below q a b))
+  pub none-below : {x low high : ℕ} → Parted vertex x first stop low high → (q : ℕ) → first ≤ q → q < low → vertex q ≡ x → ⊥
+  none-below m q a b e = omega (arith, m .below q a b)
 
   -- nor after one that is not
   pub none-after : {x low : ℕ} → Parted vertex x first stop low low → (p : ℕ) → low ≤ p → (vertex p ≡ x → ⊥)
-      → (q : ℕ) → p ≤ q → q < stop → eqb (vertex q) x ≡ false
-  none-after {x} m p l n q a b =
-      ne-eqb (vertex q) x
-      (λ e. n (omega (arith, m .above p (omega arith) l (omega arith), not-falling (h .rising) p q (omega arith) a b)))
+      → (q : ℕ) → p ≤ q → q < stop → vertex q ≡ x → ⊥
+  none-after m p l n q a b e = n (omega (arith, m .above p (omega arith) l (omega arith), not-falling (h .rising) p q (omega arith) a b))

@@ -1,4 +1,6 @@
 pub mod VertexSets
-pub mod OneVertex
+pub mod Members
+pub mod Placed
+pub mod OwnEdges
 pub mod Marking
 pub mod Halving

@@ -1,10 +1,10 @@
 -- Sets of vertices, and what the edges (label, from, to) lead to.
 use Prim.Native.Nat.{ℕ}
 use mathlib.Core.Path.{_≡_}
-use mathlib.Core.Bool.{Bool, true, false, _&&_}
+use mathlib.Core.Bool.{Bool, true, false, _&&_, _||_}
 use mathlib.Core.List.{List, [], _∷_}
 use lib.ListN.{getD}
-use lib.Dec.{eqb}
+use lib.Dec.{eqb, ltb}
 use Rattle.common.specs.Lists.{at, any, table}
 
 -- some edge with the label a leads from here, the number i of an edge, to a vertex, its number j, where p holds
@@ -19,13 +19,13 @@ edgesIn n labels from to = table n (λ i. at labels i ∷ at from i ∷ at to i 
 abbrev pub isIn : List Bool → ℕ → Bool
 isIn t v = getD t v false
 
+-- where a formula without parts is true: at one vertex, by its number; everywhere, 257; by another number nowhere
+abbrev pub placed : ℕ → ℕ → Bool
+placed w v = eqb w 257 || (ltb w 256 && eqb v w)
+
 -- r has, of the asked vertices, those where p holds
 pub record Among (asked : List Bool) (p : ℕ → Bool) (r : List Bool) : Type 0 where
   pub members : (v : ℕ) → isIn r v ≡ (isIn asked v && p v)
-
--- every vertex that is found is at the end of an edge with the label a from an asked one
-abbrev pub FoundAtEnds : List (List ℕ) → ℕ → List Bool → List Bool → Type 0
-FoundAtEnds es a asked found = (v : ℕ) → isIn found v ≡ true → leads es 2 1 a (isIn asked) v ≡ true
 
 -- r says whether the set has a vertex
 pub record HasMember (s : List Bool) (r : Bool) : Type 0 where

@@ -1,20 +1,27 @@
 // Sets of vertices, as tables of 256 bools, and steps along edges: where the edges with a label lead from the vertices of a set, and from
 // which of them one leads to another set. The columns of the edges are lent, and the places of their index. A step passes over the edges
-// of its own label only, forward in the edges' own order and backward in the index's: twice, or where a single vertex is asked once, over
-// those that start there, which are found by halving.
+// of its own label only, forward in the edges' own order and backward in the index's. From a single vertex it passes over those that start
+// there, which stand together and are found by halving.
 
 ghost use mathlib.Core.Path.{_≡_};
-ghost use mathlib.Core.Bool.{Bool, true, false, not, _||_};
+ghost use mathlib.Core.Bool.{Bool, true, false, not, _&&_, _||_};
 ghost use mathlib.Core.List.{List};
-ghost use Prim.Native.Nat.{ℕ, _<_};
+ghost use Prim.Native.Nat.{ℕ, _≤_, _<_};
 ghost use lib.ListN.{length};
-ghost use lib.Dec.{eqb};
+ghost use lib.Dec.{eqb, ltb};
 ghost use Rattle.common.specs.Limits.{mostEdges};
 ghost use Rattle.common.specs.Halving.{Parted};
 ghost use Rattle.edge_index.specs.Spans.{placeAt, Listed, Passable};
-ghost use Rattle.vertices.specs.Steps.{isIn, Among, HasMember, leads, edgesIn, FoundAtEnds};
-ghost use Rattle.vertices.specs.Passes.{vertexAt, Marked};
+ghost use Rattle.vertices.specs.Steps.{isIn, placed, Among, HasMember, leads, edgesIn};
+ghost use Rattle.vertices.specs.Passes.{vertexAt, OwnEdges, StartsAt};
 use common::MOST_EDGES;
+
+// In place of a vertex: none, and every one; also that there are more than one.
+pub const NO_VERTEX: u16 = 256;
+
+pub const EVERY_VERTEX: u16 = 257;
+
+const SEVERAL: u16 = 257;
 
 // A set of vertices: for each octet whether it is in the set.
 type Vertices = [bool; 256];
@@ -24,6 +31,13 @@ fn index(x: u8) -> usize
     ensures { λ r. ⌜ (r ≡ x) × (r < 256) ⌝ }
 {
     x as usize
+}
+
+// A vertex as a number that may also be none.
+fn number(x: u8) -> u16
+    ensures { λ r. ⌜ (r ≡ x) × (r < 256) ⌝ }
+{
+    x as u16
 }
 
 // ---- sets
@@ -60,7 +74,7 @@ pub fn whole(s: Vertices) -> Vertices
 }
 
 // The set has a vertex.
-fn has_any(s: Vertices) -> bool
+pub fn has_any(s: Vertices) -> bool
     ensures { λ r. ⌜ HasMember s r ⌝ }
 {
     let mut found = false;
@@ -72,14 +86,34 @@ fn has_any(s: Vertices) -> bool
     found
 }
 
-// No vertex other than x is asked.
-pub fn none_beside<'a>(asked: &'a Vertices, x: u8) -> bool
-    ensures { λ r. ⌜ (r ≡ true → (v : ℕ) → isIn (now (asked .entry)) v ≡ true → v ≡ x) ⌝ }
+// Vertex y is where w says: it is w, or w is every vertex.
+pub fn is_placed(w: u16, y: u8) -> bool
+    ensures { λ r. ⌜ r ≡ placed w y ⌝ }
 {
-    let mut others = *asked;
-    let i = index(x);
-    others[i] = false;
-    !has_any(others)
+    (w == EVERY_VERTEX) | (w == y as u16)
+}
+
+// Of the asked vertices those where w says: all, one or none.
+pub fn among_placed<'a>(asked: &'a Vertices, w: u16) -> Vertices
+    ensures { λ r. ⌜ Among (now (asked .entry)) (placed w) r ⌝ }
+{
+    if w == EVERY_VERTEX {
+        return *asked;
+    }
+    if w < NO_VERTEX {
+        return only(asked, w as u8);
+    }
+    none()
+}
+
+// All asked vertices, or none.
+pub fn asked_if<'a>(asked: &'a Vertices, b: bool) -> Vertices
+    ensures { λ r. ⌜ Among (now (asked .entry)) (λ v. b) r ⌝ }
+{
+    if b {
+        return *asked;
+    }
+    none()
 }
 
 // Of the asked vertices those not in t.
@@ -129,7 +163,7 @@ fn edge_at<'a>(backward: bool, places: &'a [u16; MOST_EDGES], p: usize) -> usize
 }
 
 // The first position whose edge starts at x or a later vertex, or `stop`: found by halving, since the starts do not fall.
-fn first_from<'a>(
+pub fn first_from<'a>(
     starts: &'a [u8; MOST_EDGES],
     places: &'a [u16; MOST_EDGES],
     backward: bool,
@@ -154,8 +188,8 @@ fn first_from<'a>(
     low
 }
 
-// The vertices at which the edges end that start at an asked one: each edge is looked at.
-fn ends_from<'a, 'b>(
+// The vertices to which an edge with the label leads from an asked one: each edge is looked at.
+pub fn reached_from<'a, 'b>(
     starts: &'a [u8; MOST_EDGES],
     ends: &'a [u8; MOST_EDGES],
     places: &'a [u16; MOST_EDGES],
@@ -165,8 +199,8 @@ fn ends_from<'a, 'b>(
     asked: &'b Vertices,
 ) -> Vertices
     requires { ⌜ Passable (now starts) (now places) backward first stop ⌝ }
-    ensures { λ r. ⌜ Marked (λ p. isIn (now (asked .entry)) (vertexAt (now (starts .entry)) backward (now (places .entry)) p))
-        (vertexAt (now (ends .entry)) backward (now (places .entry))) first stop stop r ⌝ }
+    ensures { λ r. ⌜ ((n : ℕ) (labels : List ℕ) (l : ℕ) → Listed n labels l first stop (placeAt backward (now (places .entry)))
+        → (v : ℕ) → isIn r v ≡ leads (edgesIn n labels (now (starts .entry)) (now (ends .entry))) 2 1 l (isIn (now (asked .entry))) v) ⌝ }
 {
     let mut r = none();
     let mut p = first;
@@ -182,8 +216,10 @@ fn ends_from<'a, 'b>(
     r
 }
 
-// The vertices at which the edges end that start at x: they stand together, so that only they are passed.
-fn ends_of<'a>(
+// ---- from a single vertex, whose own edges are found at `own`
+
+// The vertices to which an edge with the label leads from x.
+pub fn reached_from_one<'a>(
     starts: &'a [u8; MOST_EDGES],
     ends: &'a [u8; MOST_EDGES],
     places: &'a [u16; MOST_EDGES],
@@ -191,13 +227,14 @@ fn ends_of<'a>(
     first: usize,
     stop: usize,
     x: u8,
+    own: usize,
 ) -> Vertices
-    requires { ⌜ Passable (now starts) (now places) backward first stop ⌝ }
-    ensures { λ r. ⌜ Marked (λ p. eqb (vertexAt (now (starts .entry)) backward (now (places .entry)) p) x)
-        (vertexAt (now (ends .entry)) backward (now (places .entry))) first stop stop r ⌝ }
+    requires { ⌜ OwnEdges (now starts) (now places) backward first stop x own ⌝ }
+    ensures { λ r. ⌜ ((n : ℕ) (labels : List ℕ) (l : ℕ) → Listed n labels l first stop (placeAt backward (now (places .entry)))
+        → (v : ℕ) → isIn r v ≡ leads (edgesIn n labels (now (starts .entry)) (now (ends .entry))) 2 1 l (λ u. eqb u x) v) ⌝ }
 {
     let mut r = none();
-    let mut p = first_from(starts, places, backward, first, stop, x);
+    let mut p = own;
     while p < stop {
         let k = edge_at(backward, places, p);
         p += 1;
@@ -210,8 +247,8 @@ fn ends_of<'a>(
     r
 }
 
-// The vertices to which an edge with the label leads from an asked one; `one` says that no vertex beside x is asked.
-pub fn reached_from<'a, 'b>(
+// An edge with the label leads from x to where w says.
+pub fn leads_to<'a>(
     starts: &'a [u8; MOST_EDGES],
     ends: &'a [u8; MOST_EDGES],
     places: &'a [u16; MOST_EDGES],
@@ -219,23 +256,75 @@ pub fn reached_from<'a, 'b>(
     first: usize,
     stop: usize,
     x: u8,
-    one: bool,
-    asked: &'b Vertices,
-) -> Vertices
-    requires { ⌜ Passable (now starts) (now places) backward first stop
-        × (one ≡ true → (v : ℕ) → isIn (now asked) v ≡ true → v ≡ x) ⌝ }
+    own: usize,
+    w: u16,
+) -> bool
+    requires { ⌜ OwnEdges (now starts) (now places) backward first stop x own ⌝ }
     ensures { λ r. ⌜ ((n : ℕ) (labels : List ℕ) (l : ℕ) → Listed n labels l first stop (placeAt backward (now (places .entry)))
-        → (v : ℕ) → isIn r v ≡ leads (edgesIn n labels (now (starts .entry)) (now (ends .entry))) 2 1 l (isIn (now (asked .entry))) v) ⌝ }
+        → (P : ℕ → Bool) → ((v : ℕ) → placed w v ≡ P v)
+        → r ≡ leads (edgesIn n labels (now (starts .entry)) (now (ends .entry))) 1 2 l P x) ⌝ }
 {
-    let i = index(x);
-    if one {
-        if asked[i] {
-            return ends_of(starts, ends, places, backward, first, stop, x);
+    let mut p = own;
+    while p < stop {
+        let k = edge_at(backward, places, p);
+        p += 1;
+        if starts[k] != x {
+            return false;
         }
-        return none();
+        if is_placed(w, ends[k]) {
+            return true;
+        }
     }
-    ends_from(starts, ends, places, backward, first, stop, asked)
+    false
 }
+
+// The edge at position p is one of the label's and starts at x.
+fn starts_at<'a>(
+    starts: &'a [u8; MOST_EDGES],
+    places: &'a [u16; MOST_EDGES],
+    backward: bool,
+    first: usize,
+    stop: usize,
+    x: u8,
+    p: usize,
+) -> bool
+    requires { ⌜ Passable (now starts) (now places) backward first stop × (first ≤ p) ⌝ }
+    ensures { λ r. ⌜ StartsAt (now (starts .entry)) (now (places .entry)) backward stop x p r ⌝ }
+{
+    if stop <= p {
+        return false;
+    }
+    let k = edge_at(backward, places, p);
+    starts[k] == x
+}
+
+// The vertex where the only edge with the label ends that starts at x; 256 where there is none, more where there are several.
+pub fn only_end<'a>(
+    starts: &'a [u8; MOST_EDGES],
+    ends: &'a [u8; MOST_EDGES],
+    places: &'a [u16; MOST_EDGES],
+    backward: bool,
+    first: usize,
+    stop: usize,
+    x: u8,
+    own: usize,
+) -> u16
+    requires { ⌜ OwnEdges (now starts) (now places) backward first stop x own ⌝ }
+    ensures { λ r. ⌜ ((n : ℕ) (labels : List ℕ) (l : ℕ) → Listed n labels l first stop (placeAt backward (now (places .entry)))
+        → (P : ℕ → Bool) → r ≤ 256
+        → leads (edgesIn n labels (now (starts .entry)) (now (ends .entry))) 1 2 l P x ≡ (ltb r 256 && P r)) ⌝ }
+{
+    if !starts_at(starts, places, backward, first, stop, x, own) {
+        return NO_VERTEX;
+    }
+    if starts_at(starts, places, backward, first, stop, x, own + 1) {
+        return SEVERAL;
+    }
+    let k = edge_at(backward, places, own);
+    number(ends[k])
+}
+
+// ---- to a set
 
 // Of the asked vertices those from which an edge with the label leads to where P holds, which `found` says of every octet: each edge is
 // looked at.
@@ -266,33 +355,4 @@ pub fn starts_to<'a, 'b, 'c>(
         }
     }
     r
-}
-
-// Of the asked vertices those from which an edge with the label leads to one of `found`, where every vertex of `found` is at the end
-// of such an edge. If only one vertex is asked, it is enough that there is one.
-pub fn leading_to<'a, 'b, 'c>(
-    starts: &'a [u8; MOST_EDGES],
-    ends: &'a [u8; MOST_EDGES],
-    places: &'a [u16; MOST_EDGES],
-    backward: bool,
-    first: usize,
-    stop: usize,
-    one: bool,
-    asked: &'b Vertices,
-    found: &'c Vertices,
-) -> Vertices
-    requires { ⌜ Passable (now starts) (now places) backward first stop
-        × (one ≡ true → (x : ℕ) × ((v : ℕ) → isIn (now asked) v ≡ true → v ≡ x)) ⌝ }
-    ensures { λ r. ⌜ ((n : ℕ) (labels : List ℕ) (l : ℕ) → Listed n labels l first stop (placeAt backward (now (places .entry)))
-        → FoundAtEnds (edgesIn n labels (now (starts .entry)) (now (ends .entry))) l (now (asked .entry)) (now (found .entry))
-        → Among (now (asked .entry))
-        (leads (edgesIn n labels (now (starts .entry)) (now (ends .entry))) 1 2 l (isIn (now (found .entry)))) r) ⌝ }
-{
-    if one {
-        if has_any(*found) {
-            return *asked;
-        }
-        return none();
-    }
-    starts_to(starts, ends, places, backward, first, stop, asked, found)
 }

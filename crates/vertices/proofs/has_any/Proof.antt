@@ -3,7 +3,7 @@ use Prim.Native.Nat.{_-_, _≤_}
 use mathlib.Core.Path.{_≡_, sym, _∙_}
 use native.Mathlib.Omega.{arith}
 use borrow.Author.Needs.{needs}
-use Rattle.vertices.proofs.OneVertex.{MemberBelow, member-none, member-more, member-all}
+use Rattle.vertices.proofs.Members.{MemberBelow, member-none, member-more, member-all}
 use Rattle.vertices.proofs.has_any.Statement.{statement}
 use Rattle.vertices.proofs.has_any.Tie as tie
 
