@@ -3,7 +3,6 @@
 ghost use mathlib.Core.Path.{_≡_};
 ghost use Rattle.policy.specs.Loadable as validity;
 ghost use Rattle.policy.specs.Edits as spec;
-use crate::Edited;
 use crate::Record;
 use crate::edges::add_refusal;
 use crate::edges::edge_place;
@@ -15,9 +14,16 @@ use tables::columns::remove;
 
 impl Record {
     // `add_edge` with the answer of the test.
-    pub fn add_edge_given(mut self, loads: bool, label: u8, source: u8, target: u8) -> Edited
+    pub fn add_edge_given<'a>(
+        mut self,
+        loads: bool,
+        label: u8,
+        source: u8,
+        target: u8,
+        number: &'a mut u8,
+    ) -> Record
         requires { ⌜ loads ≡ validity.loadable self ⌝ }
-        ensures { λ r. ⌜ r ≡ spec.added self label source target ⌝ }
+        ensures { λ r. ⌜ record { number = now (number .exit); rules = r } ≡ spec.added self label source target ⌝ }
     {
         let count = self.edge_count;
         let place = edge_place(
@@ -31,8 +37,9 @@ impl Record {
             source,
             target,
         );
-        let number = add_refusal(place, count);
-        if number == ACCEPTED {
+        let refusal = add_refusal(place, count);
+        *number = refusal;
+        if refusal == ACCEPTED {
             let row = place.row;
             insert(&mut self.edge_labels, count, row, label);
             insert(&mut self.edge_sources, count, row, source);
@@ -51,16 +58,20 @@ impl Record {
             self.index = next;
             self.memo = memo;
         }
-        Edited {
-            number: number,
-            rules: self,
-        }
+        self
     }
 
     // `remove_edge` with the answer of the test.
-    pub fn remove_edge_given(mut self, loads: bool, label: u8, source: u8, target: u8) -> Edited
+    pub fn remove_edge_given<'a>(
+        mut self,
+        loads: bool,
+        label: u8,
+        source: u8,
+        target: u8,
+        number: &'a mut u8,
+    ) -> Record
         requires { ⌜ loads ≡ validity.loadable self ⌝ }
-        ensures { λ r. ⌜ r ≡ spec.removed self label source target ⌝ }
+        ensures { λ r. ⌜ record { number = now (number .exit); rules = r } ≡ spec.removed self label source target ⌝ }
     {
         let count = self.edge_count;
         let place = edge_place(
@@ -74,8 +85,9 @@ impl Record {
             source,
             target,
         );
-        let number = remove_refusal(place);
-        if number == ACCEPTED {
+        let refusal = remove_refusal(place);
+        *number = refusal;
+        if refusal == ACCEPTED {
             let row = place.row;
             let index = self.index;
             let left = edge_index::without_edge(
@@ -94,9 +106,6 @@ impl Record {
             self.index = left;
             self.memo = empty;
         }
-        Edited {
-            number: number,
-            rules: self,
-        }
+        self
     }
 }

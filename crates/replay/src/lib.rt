@@ -17,7 +17,6 @@ use access::Answer;
 use access::Decision;
 use justification::Question;
 use justification::Verdict;
-use policy::Edited;
 use policy::Memo;
 use policy::Record;
 use tickets::Ticket;
@@ -63,13 +62,12 @@ fn call_at(calls: &[u8], place: usize) -> CallFields
     }
 }
 
-// An edit's answer: no set, no evaluation.
-fn edit_answer(edited: Edited) -> Answer
-    ensures { λ r. ⌜ r ≡ editAnswer edited ⌝ }
+// An edit's answer, from its number and the record that it leaves: no set, no evaluation.
+fn edit_answer(number: u8, rules: Record) -> Answer
+    ensures { λ r. ⌜ r ≡ editAnswer (record { number = number; rules = rules }) ⌝ }
 {
-    let rules = edited.rules;
     Answer {
-        number: edited.number,
+        number: number,
         set: 0,
         evaluations: 0,
         rules: rules,
@@ -134,8 +132,28 @@ fn answer_given(rules: Record, loads: bool, call: CallFields) -> Answer
 {
     let kind = call.kind;
     match kind {
-        0 => edit_answer(rules.add_edge_given(loads, call.first, call.second, call.third)),
-        1 => edit_answer(rules.remove_edge_given(loads, call.first, call.second, call.third)),
+        0 => {
+            let mut number: u8 = 0;
+            let left = rules.add_edge_given(
+                loads,
+                call.first,
+                call.second,
+                call.third,
+                &mut number,
+            );
+            edit_answer(number, left)
+        }
+        1 => {
+            let mut number: u8 = 0;
+            let left = rules.remove_edge_given(
+                loads,
+                call.first,
+                call.second,
+                call.third,
+                &mut number,
+            );
+            edit_answer(number, left)
+        }
         _ => access::answer_of(rules, decision_of(rules, loads, call)),
     }
 }
@@ -197,13 +215,12 @@ pub struct Replayed {
 }
 
 // Answers the calls in turn. No call changes whether some bundle loads to the record: one test does for all.
-pub fn answer_all(rules: Record, calls: &[u8], answers: &mut [u8]) -> Replayed
+pub fn answer_all(mut rules: Record, calls: &[u8], answers: &mut [u8]) -> Replayed
     ensures { λ r. ⌜ (r ≡ replayed rules (now (calls .entry)) (now (answers .entry)))
         × (now (answers .exit) ≡ bufferAfter rules (now (calls .entry)) (now (answers .entry))) × Typed rules ⌝ }
 {
     let n = answerable(calls.len(), answers.len());
     let loads = policy::loadable::loadable(rules);
-    let mut r = rules;
     let mut i: usize = 0;
     while i < n {
         let place = ANSWER_OCTETS * i;
@@ -212,24 +229,39 @@ pub fn answer_all(rules: Record, calls: &[u8], answers: &mut [u8]) -> Replayed
         i += 1;
         match kind {
             0 => {
-                let e = r.add_edge_given(loads, call.first, call.second, call.third);
-                put_answer(answers, place, e.number, 0, 0);
-                r = e.rules;
+                let mut number: u8 = 0;
+                rules = rules.add_edge_given(
+                    loads,
+                    call.first,
+                    call.second,
+                    call.third,
+                    &mut number,
+                );
+                put_answer(answers, place, number, 0, 0);
             }
             1 => {
-                let e = r.remove_edge_given(loads, call.first, call.second, call.third);
-                put_answer(answers, place, e.number, 0, 0);
-                r = e.rules;
+                let mut number: u8 = 0;
+                rules = rules.remove_edge_given(
+                    loads,
+                    call.first,
+                    call.second,
+                    call.third,
+                    &mut number,
+                );
+                put_answer(answers, place, number, 0, 0);
             }
             _ => {
-                let d = decision_of(r, loads, call);
+                let d = decision_of(rules, loads, call);
                 put_answer(answers, place, d.number, d.set, d.evaluations);
                 let memo = d.memo;
-                r.memo = memo;
+                rules.memo = memo;
             }
         }
     }
-    Replayed { count: n, rules: r }
+    Replayed {
+        count: n,
+        rules: rules,
+    }
 }
 
 // Answers the calls in turn, and returns how many.

@@ -21,9 +21,10 @@ const OF_ONE: u8 = 22;
 const JOINED: u8 = 8;
 const APART: u8 = 22;
 
-/// Each height of chains over different labels.
+/// Each height of chains over different labels. At height 0 there is no step to take: what that
+/// question takes is to be taken off the others, so that the evaluation of steps is left.
 pub fn even() -> Vec<Workload> {
-    (1..=HIGHEST).map(chains).collect()
+    (0..=HIGHEST).map(chains).collect()
 }
 
 /// Steps forward and backward on both graphs.
@@ -72,7 +73,7 @@ fn graph(edges: Lines) -> Lines {
 /// own: the outermost along the principal's label, the next along the label after that, and so on
 /// to a role that nobody holds. The empty set meets the guard, so that evaluation is all there is.
 fn chains(height: u8) -> Workload {
-    let principals = (63 / height).min(16);
+    let principals = (63 / height.max(1)).min(16);
     let mut lines = graph(over_16());
     lines.push(vec![4, 3, 0, 0]);
     for principal in 0..principals {
@@ -95,7 +96,7 @@ fn chains(height: u8) -> Workload {
         &lines,
         cycle,
         500,
-        [500, 200, 100, 50][usize::from(height) - 1],
+        [500, 500, 200, 100, 50][usize::from(height)],
     )
 }
 

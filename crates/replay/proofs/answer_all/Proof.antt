@@ -20,10 +20,10 @@ use Rattle.replay.proofs.answer_all.Statement.{statement}
 use Rattle.replay.proofs.answer_all.Tie as tie
 
 abbrev Inv-loop : tie.InvT-loop
-Inv-loop calls answers₀ n loads r₀ i₀ answers r i = Replaying calls answers₀ r₀ n answers r i × (loads ≡ loadable r)
+Inv-loop rules₀ calls answers₀ n loads i₀ rules answers i = Replaying calls answers₀ rules₀ n answers rules i × (loads ≡ loadable rules)
 
 abbrev μ-loop : tie.MeasureT-loop
-μ-loop calls answers₀ n loads r₀ i₀ answers r i = n - i
+μ-loop rules₀ calls answers₀ n loads i₀ rules answers i = n - i
 
 -- the function's entry, from a step of the loop
 abbrev entry : tie.In-loop Inv-loop μ-loop → tie.Start Inv-loop μ-loop
@@ -71,10 +71,10 @@ add-i c = omega (arith, fits (read c) .1, read c .loop-test .taken, entry (read 
 -- ---- an edge is added
 
 add-edge-given-requires : tie.Need-add-edge-given-requires Inv-loop μ-loop
-add-edge-given-requires c κs = read (c .before) .before .loop .inv .1
+add-edge-given-requires c κs = read (c .before .before) .before .loop .inv .1
 
 put-answer-requires : tie.Need-put-answer-requires Inv-loop μ-loop
-put-answer-requires c κs = omega (arith, room (read (c .before .before .before)))
+put-answer-requires c κs = omega (arith, room (read (c .before .before .before .before)))
 
 loop-less : tie.Need-loop-less Inv-loop μ-loop
 loop-less c = omega (arith, read (c .before .before .before .before .before .before .before) .loop-test .taken)
@@ -82,22 +82,22 @@ loop-less c = omega (arith, read (c .before .before .before .before .before .bef
 loop-again : tie.Need-loop-again Inv-loop μ-loop
 unfolding answerTo
 loop-again c =
-    let p = c .before .before .before in
+    let p = c .before .before in
     let x = p .before .before in
-    let m = x .before in
+    let m = x .before .before in
     let h = read (m .before) in
     let l = h .before .loop in
-    replaying-on (l .inv .0) (fits h .1) (editAnswer (x .add-edge-given .result)) (h .loop-test .taken) (l .inv .1)
-    (read-is (m .before) (l .r) (answer-case _ _ 0 (m .match .keys1) (ap (λ (e : Edited). editAnswer e) (x .add-edge-given .ensures))))
+    replaying-on (l .inv .0) (fits h .1) (editAnswer _) (h .loop-test .taken) (l .inv .1)
+    (read-is (m .before) (l .rules) (answer-case _ _ 0 (m .match .keys1) (ap (λ (e : Edited). editAnswer e) (x .add-edge-given .ensures))))
     (p .put-answer .ensures)
 
 -- ---- an edge is removed
 
 remove-edge-given-requires : tie.Need-remove-edge-given-requires Inv-loop μ-loop
-remove-edge-given-requires c κs = read (c .before) .before .loop .inv .1
+remove-edge-given-requires c κs = read (c .before .before) .before .loop .inv .1
 
 put-answer-requires-2 : tie.Need-put-answer-requires-2 Inv-loop μ-loop
-put-answer-requires-2 c κs = omega (arith, room (read (c .before .before .before)))
+put-answer-requires-2 c κs = omega (arith, room (read (c .before .before .before .before)))
 
 loop-less-2 : tie.Need-loop-less-2 Inv-loop μ-loop
 loop-less-2 c = omega (arith, read (c .before .before .before .before .before .before .before) .loop-test .taken)
@@ -105,13 +105,13 @@ loop-less-2 c = omega (arith, read (c .before .before .before .before .before .b
 loop-again-2 : tie.Need-loop-again-2 Inv-loop μ-loop
 unfolding answerTo
 loop-again-2 c =
-    let p = c .before .before .before in
+    let p = c .before .before in
     let x = p .before .before in
-    let m = x .before in
+    let m = x .before .before in
     let h = read (m .before) in
     let l = h .before .loop in
-    replaying-on (l .inv .0) (fits h .1) (editAnswer (x .remove-edge-given .result)) (h .loop-test .taken) (l .inv .1)
-    (read-is (m .before) (l .r) (answer-case _ _ 1 (m .match .keys2) (ap (λ (e : Edited). editAnswer e) (x .remove-edge-given .ensures))))
+    replaying-on (l .inv .0) (fits h .1) (editAnswer _) (h .loop-test .taken) (l .inv .1)
+    (read-is (m .before) (l .rules) (answer-case _ _ 1 (m .match .keys2) (ap (λ (e : Edited). editAnswer e) (x .remove-edge-given .ensures))))
     (p .put-answer2 .ensures)
 
 -- ---- a call that is no edit
@@ -133,8 +133,8 @@ loop-again-3 c =
     let m = x .before in
     let h = read (m .before) in
     let l = h .before .loop in
-    replaying-on (l .inv .0) (fits h .1) (leaves (l .r) (x .decision-of .result)) (h .loop-test .taken) (l .inv .1)
-    (read-is (m .before) (l .r) (x .decision-of .ensures))
+    replaying-on (l .inv .0) (fits h .1) (leaves (l .rules) (x .decision-of .result)) (h .loop-test .taken) (l .inv .1)
+    (read-is (m .before) (l .rules) (x .decision-of .ensures))
     (p .put-answer3 .ensures)
 
 same-length : tie.Need-same-length Inv-loop μ-loop

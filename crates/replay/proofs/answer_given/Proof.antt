@@ -9,13 +9,13 @@ use Rattle.replay.proofs.answer_given.Statement.{statement}
 use Rattle.replay.proofs.answer_given.Tie as tie
 
 add-edge-given-requires : tie.Need-add-edge-given-requires
-add-edge-given-requires c κs = c .before .pre
+add-edge-given-requires c κs = c .before .before .pre
 
 edit-answer-requires : tie.Need-edit-answer-requires
 edit-answer-requires c κs = search needs
 
 remove-edge-given-requires : tie.Need-remove-edge-given-requires
-remove-edge-given-requires c κs = c .before .pre
+remove-edge-given-requires c κs = c .before .before .pre
 
 edit-answer-requires-2 : tie.Need-edit-answer-requires-2
 edit-answer-requires-2 c κs = search needs
@@ -29,7 +29,7 @@ answer-of-requires c κs = search needs
 returns : tie.Need-returns
 unfolding answerTo
 returns c =
-    let m = c .before .before in
+    let m = c .before .before .before in
     let a = m .before .args in
     answer-case (a .rules) (a .call) 0 (m .match .keys1)
     (c .edit-answer .ensures ∙ ap (λ (x : Edited). editAnswer x) (c .before .add-edge-given .ensures))
@@ -37,7 +37,7 @@ returns c =
 returns-2 : tie.Need-returns-2
 unfolding answerTo
 returns-2 c =
-    let m = c .before .before in
+    let m = c .before .before .before in
     let a = m .before .args in
     answer-case (a .rules) (a .call) 1 (m .match .keys2)
     (c .edit-answer2 .ensures ∙ ap (λ (x : Edited). editAnswer x) (c .before .remove-edge-given .ensures))
