@@ -32,7 +32,8 @@ fn index(x: u8) -> usize
 
 // ---- at one vertex
 
-// Whether formula f is true at vertex x, if it is below n. Its parts must be below it in turn, so that it ends.
+// Whether formula f is true at vertex x, if it is below n. Its parts must be below it in turn, so that it ends. A formula that has parts has
+// an op from 4 to 9, or 11.
 fn true_at<'a>(
     q: formula::ContextNumbers,
     labels: &'a [u8; MOST_EDGES],
@@ -322,7 +323,7 @@ fn at_slot<'a>(
 
 // ---- on sets of vertices
 
-// Of the asked vertices those where formula f is true, if it is below n; else none. Its parts must be below it in turn, so that it ends.
+// Of the asked vertices those where formula f is true, if it is below n; else none. As in `true_at`.
 fn evaluate<'a, 'b>(
     q: formula::ContextNumbers,
     labels: &'a [u8; MOST_EDGES],

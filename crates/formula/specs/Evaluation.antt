@@ -11,7 +11,7 @@ use Rattle.common.specs.Sets.{member}
 use Rattle.rows.specs.Op.{opOf}
 use Rattle.policy.specs.declared.Record.{Record}
 use Rattle.policy.specs.Table.{edge, rows}
-use Rattle.vertices.specs.Steps.{edgesIn, placed}
+use Rattle.vertices.specs.Steps.{edgesIn, noVertex, everyVertex, placed}
 use Rattle.formula.specs.declared.ContextNumbers.{ContextNumbers}
 use Rattle.formula.specs.Formula.{Context, Formulas, Slot, unset, holding, allUnset, meaning, trueBelow, formulasOf}
 
@@ -21,7 +21,7 @@ formulasIn ops lefts rights = record { ops = ops; lefts = lefts; rights = rights
 
 -- a slot by its number, which is not a vertex where it is unset; slot a by the slots' numbers
 abbrev pub slotOf : ℕ → Slot
-slotOf x = cond (ltb x 256) (holding x) unset
+slotOf x = cond (ltb x noVertex) (holding x) unset
 
 abbrev pub slotIn : ContextNumbers → ℕ → Slot
 slotIn q a = getD (map slotOf (q .slots)) a unset
@@ -50,16 +50,16 @@ pub record Direction (backward : Bool) (from to starts ends : List ℕ) : Type 0
   pub start : starts ≡ cond backward to from
   pub end : ends ≡ cond backward from to
 
--- r is where a formula (op, a, b) without parts is true; above 257 where it has parts
+-- r is where a formula (op, a, b) without parts is true; above `everyVertex` where it has parts: its op is 4 to 9, or 11
 pub record PlaceOf (q : ContextNumbers) (op a r : ℕ) : Type 0 where
-  pub parts : 257 < r → (4 ≤ op) × (op ≤ 11) × (op ≡ 10 → ⊥)
-  pub place : r ≤ 257 → (labels from to : List ℕ) (b : ℕ) (part : Context → ℕ → ℕ → Bool) (v : ℕ)
+  pub parts : everyVertex < r → (4 ≤ op) × (op ≤ 11) × (op ≡ 10 → ⊥)
+  pub place : r ≤ everyVertex → (labels from to : List ℕ) (b : ℕ) (part : Context → ℕ → ℕ → Bool) (v : ℕ)
       → placed r v ≡ meaning (contextIn q labels from to) (opOf op) a b part v
 
--- r is where formula f is true, if it is below n and has no parts, or is not below n; above 257 where it has parts
+-- r is where formula f is true, if it is below n and has no parts, or is not below n; above `everyVertex` where it has parts
 pub record PlaceBelow (q : ContextNumbers) (ops lefts : List ℕ) (n f r : ℕ) : Type 0 where
-  pub parts : 257 < r → (f < n) × (4 ≤ at ops f) × (at ops f ≤ 11) × (at ops f ≡ 10 → ⊥)
-  pub place : r ≤ 257 → (labels from to rights : List ℕ) (v : ℕ)
+  pub parts : everyVertex < r → (f < n) × (4 ≤ at ops f) × (at ops f ≤ 11) × (at ops f ≡ 10 → ⊥)
+  pub place : r ≤ everyVertex → (labels from to rights : List ℕ) (v : ℕ)
       → placed r v ≡ trueBelow (formulasIn ops lefts rights) (contextIn q labels from to) n f v
 
 -- what `true_at_object` answers on a record's columns, where the requestor s holds the roles

@@ -9,7 +9,7 @@ ghost use lib.Dec.{eqb};
 ghost use Rattle.common.specs.Limits.{mostUsers, mostFormulas};
 ghost use Rattle.common.specs.Sets.{member};
 ghost use Rattle.rows.specs.Op.{opOf};
-ghost use Rattle.vertices.specs.Steps.{isIn, placed};
+ghost use Rattle.vertices.specs.Steps.{isIn, noVertex, placed};
 ghost use Rattle.formula.specs.Formula.{trueOf, keep};
 ghost use Rattle.formula.specs.Uses.{readsOf, readsSlot};
 ghost use Rattle.formula.specs.Evaluation.{formulasIn, slotOf, slotIn, contextIn, holdsRoleIn, PlaceOf, PlaceBelow};
@@ -129,7 +129,7 @@ pub fn reads_slot<'a>(
 
 // Where op 10 is true: at the vertex in slot a; nowhere if there is none.
 fn slot_place(q: ContextNumbers, a: u8) -> u16
-    ensures { λ r. ⌜ (r ≤ 256) × ((v : ℕ) → placed r v ≡ trueOf (slotIn q a) (λ w. eqb v w)) ⌝ }
+    ensures { λ r. ⌜ (r ≤ noVertex) × ((v : ℕ) → placed r v ≡ trueOf (slotIn q a) (λ w. eqb v w)) ⌝ }
 {
     let v = slot_vertex(q, a);
     if NO_VERTEX <= v {

@@ -19,9 +19,16 @@ edgesIn n labels from to = table n (λ i. at labels i ∷ at from i ∷ at to i 
 abbrev pub isIn : List Bool → ℕ → Bool
 isIn t v = getD t v false
 
--- where a formula without parts is true: at one vertex, by its number; everywhere, 257; by another number nowhere
+-- numbers in place of a vertex: no vertex, and every one
+abbrev pub noVertex : ℕ
+noVertex = 256
+
+abbrev pub everyVertex : ℕ
+everyVertex = 257
+
+-- v is where the number w says: it is w, or w is every vertex
 abbrev pub placed : ℕ → ℕ → Bool
-placed w v = eqb w 257 || (ltb w 256 && eqb v w)
+placed w v = eqb w everyVertex || (ltb w noVertex && eqb v w)
 
 -- r has, of the asked vertices, those where p holds
 pub record Among (asked : List Bool) (p : ℕ → Bool) (r : List Bool) : Type 0 where

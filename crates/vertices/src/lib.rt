@@ -12,15 +12,16 @@ ghost use lib.Dec.{eqb, ltb};
 ghost use Rattle.common.specs.Limits.{mostEdges};
 ghost use Rattle.common.specs.Halving.{Parted};
 ghost use Rattle.edge_index.specs.Spans.{placeAt, Listed, Passable};
-ghost use Rattle.vertices.specs.Steps.{isIn, placed, Among, HasMember, leads, edgesIn};
+ghost use Rattle.vertices.specs.Steps.{isIn, noVertex, placed, Among, HasMember, leads, edgesIn};
 ghost use Rattle.vertices.specs.Passes.{vertexAt, OwnEdges, StartsAt};
 use common::MOST_EDGES;
 
-// In place of a vertex: none, and every one; also that there are more than one.
+// Numbers in place of a vertex: no vertex, and every one.
 pub const NO_VERTEX: u16 = 256;
 
 pub const EVERY_VERTEX: u16 = 257;
 
+// In place of the only vertex: that there are several.
 const SEVERAL: u16 = 257;
 
 // A set of vertices: for each octet whether it is in the set.
@@ -311,8 +312,8 @@ pub fn only_end<'a>(
 ) -> u16
     requires { ⌜ OwnEdges (now starts) (now places) backward first stop x own ⌝ }
     ensures { λ r. ⌜ ((n : ℕ) (labels : List ℕ) (l : ℕ) → Listed n labels l first stop (placeAt backward (now (places .entry)))
-        → (P : ℕ → Bool) → r ≤ 256
-        → leads (edgesIn n labels (now (starts .entry)) (now (ends .entry))) 1 2 l P x ≡ (ltb r 256 && P r)) ⌝ }
+        → (P : ℕ → Bool) → r ≤ noVertex
+        → leads (edgesIn n labels (now (starts .entry)) (now (ends .entry))) 1 2 l P x ≡ (ltb r noVertex && P r)) ⌝ }
 {
     if !starts_at(starts, places, backward, first, stop, x, own) {
         return NO_VERTEX;
