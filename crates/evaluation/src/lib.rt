@@ -32,8 +32,8 @@ fn index(x: u8) -> usize
 
 // ---- at one vertex
 
-// Whether formula f is true at vertex x, if it is below n. Its parts must be below it in turn, so that it ends. A formula that has parts has
-// an op from 4 to 9, or 11.
+// Whether formula f is true at vertex x, if it is below n. Its parts must be below it in turn, so that it ends. A formula that has parts
+// has an op from 4 to 9, or 11.
 fn true_at<'a>(
     q: formula::ContextNumbers,
     labels: &'a [u8; MOST_EDGES],

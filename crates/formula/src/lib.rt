@@ -138,7 +138,7 @@ fn slot_place(q: ContextNumbers, a: u8) -> u16
     v
 }
 
-// Where a formula without parts is true, by its op and its a: at one vertex, nowhere or everywhere. An op that there is not is true nowhere.
+// Where a formula without parts is true, by its op and its a: at one vertex, nowhere or everywhere. An op above 11 is true nowhere.
 fn place_of(q: ContextNumbers, op: u8, left: u8) -> u16
     ensures { λ r. ⌜ PlaceOf q op left r ⌝ }
 {
