@@ -1,4 +1,5 @@
--- A formula by its parts, and an edge scan by its two passes: the recursion of the definition, as the evaluation goes through it.
+-- A formula by its parts, at a vertex and on sets, and a step by what is found where its edges end: the recursion of the definition, as the
+-- evaluation goes through it.
 use Prim.Native.Nat.{ℕ, zero, suc, _<_, _≤_}
 use mathlib.Core.Path.{_≡_, refl, sym, _∙_, ap}
 use mathlib.Core.Bool.{Bool, true, false, false≢true, cond, not, _&&_, _||_, and-assoc, and-or-distrib-left}

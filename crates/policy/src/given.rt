@@ -1,4 +1,5 @@
-// The edits where it is known whether some bundle loads to the record, so that a list of calls tests it once: the same contracts.
+// The edits where it is known whether some bundle loads to the record, so that a list of calls tests it once. They come to the same: the
+// record is handed back by itself, and the number is stored where it is lent.
 
 ghost use mathlib.Core.Path.{_≡_};
 ghost use Rattle.policy.specs.Loadable as validity;

@@ -12,7 +12,7 @@ use lib.Dec.{eqb}
 use borrow.Author.Count.{below-more}
 use borrow.Author.Tests.{eq-eqb, ne-eqb}
 use Rattle.common.specs.BoolLaws.{and-true, and-false}
-use Rattle.vertices.specs.Steps.{isIn, Among}
+use Rattle.vertices.specs.Steps.{isIn}
 
 -- every entry of a table of n is false
 pub all-false : (n v : ℕ) → isIn (replicate n false) v ≡ false
@@ -85,7 +85,3 @@ everywhere q r e inside outside v = go (decLt v 256)
     go : Dec (v < 256) → isIn r v ≡ q v
     go (yes l) = inside v l
     go (no n) = let h : 256 ≤ v = omega arith in beyond r 256 v e h ∙ sym (outside v h)
-
--- at an asked vertex
-pub at-asked : {asked r : List Bool} {p : ℕ → Bool} {v w : ℕ} → Among asked p r → v ≡ w → isIn asked v ≡ true → isIn r v ≡ p w
-at-asked {p = p} {v} h e t = h .members v ∙ (λ j. t j && p (e j))

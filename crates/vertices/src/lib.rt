@@ -299,7 +299,8 @@ fn starts_at<'a>(
     starts[k] == x
 }
 
-// The vertex where the only edge with the label ends that starts at x; 256 where there is none, more where there are several.
+// The vertex where the only edge with the label ends that starts at x; 256 where there is none, more where there are several. That there
+// are several nobody relies upon: it is promised what a number up to 256 says.
 pub fn only_end<'a>(
     starts: &'a [u8; MOST_EDGES],
     ends: &'a [u8; MOST_EDGES],
