@@ -12,6 +12,7 @@ use lib.Dec.{eqb}
 use lib.ListN.{length, set, replicate, length-set}
 use lib.Seq.{getD-set-same, getD-set-other}
 use borrow.Author.Tests.{eqb-true, eq-eqb}
+use Rattle.common.specs.Limits.{mostPrincipals}
 use Rattle.common.specs.ListLaws.{zero-at}
 use Rattle.common.specs.Lists.{at, any, same}
 use Rattle.common.specs.ListLaws.{any-more}
@@ -42,7 +43,8 @@ set-in l i v x y h {w} e = go (ℕ-discrete x i)
         )
 
 -- both members of a pair, each at the other's index
-pub pair-in : (m : List ℕ) (a b : ℕ) → length m ≡ 20 → a < 20 → b < 20 → {v w : ℕ} → v ≡ bitOr (at m a) (2 ^ b)
+pub pair-in : (m : List ℕ) (a b : ℕ) → length m ≡ mostPrincipals → a < mostPrincipals → b < mostPrincipals
+    → {v w : ℕ} → v ≡ bitOr (at m a) (2 ^ b)
     → w ≡ bitOr (at (set m a v) b) (2 ^ a)
     → (x y : ℕ) → (In y (at (set (set m a v) b w) x) ↔ (In y (at m x) ⊎ (((a ≡ x) × (b ≡ y)) ⊎ ((b ≡ x) × (a ≡ y)))))
 pair-in m a b long la lb {v} ev ew x y =
@@ -62,10 +64,13 @@ same-pair x y a b = (
 
 module _ (lows highs : List ℕ) where
   pub record Excludes (i : ℕ) (sets : List ℕ) : Type 0 where
-    pub each : (p q : ℕ) → p < 20 → (In q (at sets p) ↔ AmongPairs i lows highs p q)
+    pub each : (p q : ℕ) → p < mostPrincipals → (In q (at sets p) ↔ AmongPairs i lows highs p q)
 
-  pub excludes-none : Excludes 0 (replicate 20 0)
-  excludes-none = record { each = λ p q l. (λ m. absurd (none-in-zero q (subst (In q) (zero-at 20 p) m)), λ e. absurd (false≢true e)) }
+  pub excludes-none : Excludes 0 (replicate mostPrincipals 0)
+  excludes-none =
+      record {
+        each = λ p q l. (λ m. absurd (none-in-zero q (subst (In q) (zero-at mostPrincipals p) m)), λ e. absurd (false≢true e));
+      }
 
   one-more : (i p q : ℕ) → any (same (p ∷ q ∷ [])) (pairsOf (suc i) lows highs) ≡ true
       ↔ ((any (same (p ∷ q ∷ [])) (pairsOf i lows highs) ≡ true) ⊎ ((at lows i ≡ p) × (at highs i ≡ q)))
@@ -77,12 +82,12 @@ module _ (lows highs : List ℕ) where
       )
 
   pub excludes-more : {i a b : ℕ} {sets after : List ℕ} → Excludes i sets → a ≡ at lows i → b ≡ at highs i
-      → ((x y : ℕ) → x < 20 → (In y (at after x) ↔ (In y (at sets x) ⊎ (((a ≡ x) × (b ≡ y)) ⊎ ((b ≡ x) × (a ≡ y))))))
+      → ((x y : ℕ) → x < mostPrincipals → (In y (at after x) ↔ (In y (at sets x) ⊎ (((a ≡ x) × (b ≡ y)) ⊎ ((b ≡ x) × (a ≡ y))))))
       → Excludes (i + 1) after
   excludes-more {i} {a} {b} {sets} {after} h ea eb w =
       subst (λ (n : ℕ). Excludes n after) (sym (add-one i)) (record { each = λ p q l. (there p q l, back p q l) })
     where
-      there : (p q : ℕ) → p < 20 → In q (at after p) → AmongPairs (suc i) lows highs p q
+      there : (p q : ℕ) → p < mostPrincipals → In q (at after p) → AmongPairs (suc i) lows highs p q
       there p q l m =
           ⊎-elim
           (λ x. ⊎-elim (λ y. or-left _ _ (one-more i p q .1 (inl y)))
@@ -94,7 +99,7 @@ module _ (lows highs : List ℕ) where
           x)
           (w p q l .0 m)
 
-      back : (p q : ℕ) → p < 20 → AmongPairs (suc i) lows highs p q → In q (at after p)
+      back : (p q : ℕ) → p < mostPrincipals → AmongPairs (suc i) lows highs p q → In q (at after p)
       back p q l m =
           w p q l .1
           (⊎-elim

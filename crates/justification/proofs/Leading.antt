@@ -6,6 +6,7 @@ use mathlib.Core.Bool.{Bool, true, false}
 use mathlib.Core.List.{List, []}
 use native.Mathlib.Omega.{arith}
 use lib.ListN.{getD}
+use Rattle.common.specs.Limits.{mostRelated, mostPairs}
 use Rattle.common.specs.Lists.{at}
 use Rattle.closure.specs.Closure.{On, Listed, pairsOf, Closes, reaches}
 use Rattle.closure.specs.ClosureFact.{closed-reaches}
@@ -13,8 +14,9 @@ use Rattle.tables.specs.Loads.{pairsLoad}
 use Rattle.tables.specs.LoadsLaws.{pairs-few, pairs-named}
 use Rattle.justification.specs.MarkedSets.{Marks}
 
-pub leading : (things n : ℕ) (a b : List ℕ) (m c : List (List Bool)) (sets : List ℕ) → pairsLoad things n a b ≡ true → things ≤ 20
-    → ((i j : ℕ) → i < 20 → j < 20 → (On m i j ↔ Listed (pairsOf (min n 380) a b) i j)) → Closes (min things 20) (On m) (On c)
+pub leading : (things n : ℕ) (a b : List ℕ) (m c : List (List Bool)) (sets : List ℕ) → pairsLoad things n a b ≡ true → things ≤ mostRelated
+    → ((i j : ℕ) → i < mostRelated → j < mostRelated → (On m i j ↔ Listed (pairsOf (min n mostPairs) a b) i j))
+    → Closes (min things mostRelated) (On m) (On c)
     → ((j : ℕ) → j < things → Marks things (λ i. getD (getD c i []) j false) (at sets j))
     → (j : ℕ) → j < things → Marks things (λ i. reaches (pairsOf n a b) i j) (at sets j)
 leading things n a b m c sets loads few rel closes marks j lj =
@@ -25,10 +27,10 @@ leading things n a b m c sets loads few rel closes marks j lj =
       all = λ p lp e. marks j lj .all p lp (law p j lp lj .1 e);
     }
   where
-    all-pairs : min n 380 ≡ n
+    all-pairs : min n mostPairs ≡ n
     all-pairs = omega (arith, pairs-few things n a b loads)
 
-    size : min things 20 ≡ things
+    size : min things mostRelated ≡ things
     size = omega arith
 
     named : (i k : ℕ) → Listed (pairsOf n a b) i k → (i < things) × (k < things)
@@ -37,7 +39,7 @@ leading things n a b m c sets loads few rel closes marks j lj =
     closed : Closes things (On m) (On c)
     closed = subst (λ (k : ℕ). Closes k (On m) (On c)) size closes
 
-    same : (i k : ℕ) → i < 20 → k < 20 → (On m i k ↔ Listed (pairsOf n a b) i k)
+    same : (i k : ℕ) → i < mostRelated → k < mostRelated → (On m i k ↔ Listed (pairsOf n a b) i k)
     same i k li lk = subst (λ (x : ℕ). On m i k ↔ Listed (pairsOf x a b) i k) all-pairs (rel i k li lk)
 
     law : (i k : ℕ) → i < things → k < things → (On c i k ↔ (reaches (pairsOf n a b) i k ≡ true))

@@ -17,7 +17,7 @@ use Rattle.justification.specs.Justification.{demarcationHas, needs}
 use Rattle.justification.specs.Satisfying.{excluded}
 
 pub record Masked (r : Record) (m allowed : ℕ) (s : Masks) : Type 0 where
-  pub few : r .«principal_count» ≤ 20
+  pub few : r .«principal_count» ≤ mostPrincipals
   pub count : s .count ≡ r .«principal_count»
   pub permitted : s .allowed ≡ allowed
   pub excludes : (p q : ℕ) → p < r .«principal_count» → q < r .«principal_count» → (In q (at (s .excludes) p) ↔ excluded r p q)

@@ -9,6 +9,7 @@ use native.Mathlib.Numerals.{add-one}
 use lib.Dec.{eqb}
 use lib.ListN.{length, length-append}
 use borrow.Author.Tests.{eq-eqb, ne-eqb}
+use Rattle.common.specs.Limits.{mostFormulas}
 use Rattle.common.specs.Lists.{those, below}
 use Rattle.common.specs.BoolLaws.{and-false}
 use Rattle.policy.specs.declared.Memo.{Memo}
@@ -80,7 +81,7 @@ module _ (before after : Memo) where
         few = omega (arith, h .few);
       }
 
-  pub counted-all : {count f : ℕ} → Counted count f → f ≡ 64 → count ≡ newly before after
+  pub counted-all : {count f : ℕ} → Counted count f → f ≡ mostFormulas → count ≡ newly before after
   unfolding newly
   counted-all h e = h .is ∙ ap (λ (n : ℕ). length (those (λ g. known after g && not (known before g)) (below n))) e
 

@@ -100,16 +100,17 @@ edges-changed r c z x e =
 
 -- the columns of a record's type
 pub record EdgeColumnLengths (r : Record) : Type 0 where
-  pub labels : length (r .«edge_labels») ≡ 512
-  pub sources : length (r .«edge_sources») ≡ 512
-  pub targets : length (r .«edge_targets») ≡ 512
+  pub labels : length (r .«edge_labels») ≡ mostEdges
+  pub sources : length (r .«edge_sources») ≡ mostEdges
+  pub targets : length (r .«edge_targets») ≡ mostEdges
 
 -- a field's length, as owning the record tells it
-kept : (c : List ℕ) → length (map (λ (v : ℕ). v) c) ≡ 512 → length c ≡ 512
+kept : (c : List ℕ) → length (map (λ (v : ℕ). v) c) ≡ mostEdges → length c ≡ mostEdges
 kept c e = sym (length-map c (λ v. v)) ∙ e
 
-pub lengths-of : (r : Record) → length (map (λ (v : ℕ). v) (r .«edge_labels»)) ≡ 512 → length (map (λ (v : ℕ). v) (r .«edge_sources»)) ≡ 512
-    → length (map (λ (v : ℕ). v) (r .«edge_targets»)) ≡ 512 → EdgeColumnLengths r
+pub lengths-of : (r : Record) → length (map (λ (v : ℕ). v) (r .«edge_labels»)) ≡ mostEdges
+    → length (map (λ (v : ℕ). v) (r .«edge_sources»)) ≡ mostEdges
+    → length (map (λ (v : ℕ). v) (r .«edge_targets»)) ≡ mostEdges → EdgeColumnLengths r
 lengths-of r a b c =
     record { labels = kept (r .«edge_labels») a; sources = kept (r .«edge_sources») b; targets = kept (r .«edge_targets») c }
 

@@ -6,6 +6,7 @@ use native.Mathlib.Omega.{arith}
 use native.Mathlib.Numerals.{add-one}
 use lib.ListN.{length, take, drop, replicate, length-append, length-take, length-drop, length-map}
 use lib.Seq.{take-append-le, drop-append-le, take-at, drop-at, drop-drop}
+use Rattle.common.specs.Limits.{mostEdges}
 use Rattle.common.specs.Lists.{at}
 use Rattle.policy.specs.Table.{column}
 
@@ -42,7 +43,7 @@ module _ (j : ℕ) (es : List (List ℕ)) (n p : ℕ) {c : List ℕ} (is : c ≡
   f e = at e j
 
   abbrev z : List ℕ
-  z = replicate (512 - length es) 0
+  z = replicate (mostEdges - length es) 0
 
   below-is : p ≤ n → take p c ≡ map f (take p es)
   below-is h = ap (take p) is ∙ below-part f es z p (omega arith)
@@ -53,24 +54,25 @@ module _ (j : ℕ) (es : List (List ℕ)) (n p : ℕ) {c : List ℕ} (is : c ≡
   unused-is : drop n c ≡ z
   unused-is = (λ k. drop (size k) (is k)) ∙ unused-part f es z
 
-  pub column-more : (e : List ℕ) {v : ℕ} {fs : List (List ℕ)} → v ≡ at e j → p ≤ n → n < 512 → fs ≡ take p es ++ (e ∷ drop p es)
+  pub column-more : (e : List ℕ) {v : ℕ} {fs : List (List ℕ)} → v ≡ at e j → p ≤ n → n < mostEdges → fs ≡ take p es ++ (e ∷ drop p es)
       → take p c ++ (v ∷ (take (n - p) (drop p c) ++ drop (n + 1) c)) ≡ column j fs
   column-more e {v} {fs} w h s split =
-      let long : 512 - length es ≡ suc (512 - length fs) = omega
+      let long : mostEdges - length es ≡ suc (mostEdges - length fs) = omega
       (arith, ap length split, length-append (take p es) (e ∷ drop p es), length-take p es, length-drop p es) in
-      let rest : drop (n + 1) c ≡ replicate (512 - length fs) 0 =
+      let rest : drop (n + 1) c ≡ replicate (mostEdges - length fs) 0 =
       sym (drop-drop 1 n c) ∙ ap (drop 1) (unused-is ∙ ap (λ (m : ℕ). replicate m 0) long) in
       (λ k. below-is h k ++ (w k ∷ (above-is p h k ++ rest k)))
-      ∙ sym (append-assoc (map f (take p es)) (at e j ∷ map f (drop p es)) (replicate (512 - length fs) 0))
-      ∙ ap (λ (l : List ℕ). l ++ replicate (512 - length fs) 0) (sym (ap (map f) split ∙ map-append f (take p es) (e ∷ drop p es)))
+      ∙ sym (append-assoc (map f (take p es)) (at e j ∷ map f (drop p es)) (replicate (mostEdges - length fs) 0))
+      ∙ ap (λ (l : List ℕ). l ++ replicate (mostEdges - length fs) 0) (sym (ap (map f) split ∙ map-append f (take p es) (e ∷ drop p es)))
 
-  pub column-less : {fs : List (List ℕ)} → p < n → n ≤ 512 → fs ≡ take p es ++ drop (suc p) es
+  pub column-less : {fs : List (List ℕ)} → p < n → n ≤ mostEdges → fs ≡ take p es ++ drop (suc p) es
       → take p c ++ (take (n - (p + 1)) (drop (p + 1) c) ++ (0 ∷ drop n c)) ≡ column j fs
   column-less {fs} h s split =
-      let long : suc (512 - length es) ≡ 512 - length fs = omega
+      let long : suc (mostEdges - length es) ≡ mostEdges - length fs = omega
       (arith, ap length split, length-append (take p es) (drop (suc p) es), length-take p es, length-drop (suc p) es) in
-      let rest : 0 ∷ drop n c ≡ replicate (512 - length fs) 0 = ap (λ (l : List ℕ). 0 ∷ l) unused-is ∙ ap (λ (m : ℕ). replicate m 0) long in
+      let rest : 0 ∷ drop n c ≡ replicate (mostEdges - length fs) 0 =
+      ap (λ (l : List ℕ). 0 ∷ l) unused-is ∙ ap (λ (m : ℕ). replicate m 0) long in
       (λ k. below-is (omega arith) k ++ (above-is (p + 1) (omega arith) k ++ rest k))
-      ∙ (λ k. map f (take p es) ++ (map f (drop (add-one p k) es) ++ replicate (512 - length fs) 0))
-      ∙ sym (append-assoc (map f (take p es)) (map f (drop (suc p) es)) (replicate (512 - length fs) 0))
-      ∙ ap (λ (l : List ℕ). l ++ replicate (512 - length fs) 0) (sym (ap (map f) split ∙ map-append f (take p es) (drop (suc p) es)))
+      ∙ (λ k. map f (take p es) ++ (map f (drop (add-one p k) es) ++ replicate (mostEdges - length fs) 0))
+      ∙ sym (append-assoc (map f (take p es)) (map f (drop (suc p) es)) (replicate (mostEdges - length fs) 0))
+      ∙ ap (λ (l : List ℕ). l ++ replicate (mostEdges - length fs) 0) (sym (ap (map f) split ∙ map-append f (take p es) (drop (suc p) es)))

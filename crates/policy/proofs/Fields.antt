@@ -10,6 +10,8 @@ use mir.Val.{Val, bits}
 use denote.Shadow.{shadow}
 use denote.Struct.Field.{uint-field, array-field}
 use borrow.Author.Needs.{elem-fits-field}
+use Rattle.common.specs.Limits.{mostUsers, mostEdges, mostFormulas, mostDemarcations, mostPairs, mostPrincipals, mostExclusions}
+use Rattle.common.specs.Limits.{mostMethods}
 use Rattle.common.specs.Lists.{at}
 use Rattle.policy.specs.declared.Record.{Record}
 use Rattle.policy.specs.Table.{Kind, head, user, edge, formula, demarcation, hierarchy, principal, exclusion, prerequisite, method, end}
@@ -28,25 +30,25 @@ column w n c vs t p = record { long = ap length (sym (map-id c)) ∙ p .1 .0 .1;
 
 pub record Columns (r : Record) : Type 0 where
   pub objects : r .objects < 256
-  pub user-objects : Column w8 255 (r .«user_objects»)
-  pub user-roles : Column w16 255 (r .«user_roles»)
-  pub labels : Column w8 512 (r .«edge_labels»)
-  pub sources : Column w8 512 (r .«edge_sources»)
-  pub targets : Column w8 512 (r .«edge_targets»)
-  pub ops : Column w8 64 (r .«formula_ops»)
-  pub lefts : Column w8 64 (r .«formula_lefts»)
-  pub rights : Column w8 64 (r .«formula_rights»)
-  pub demarcations : Column w64 20 (r .«demarcation_privileges»)
-  pub inferiors : Column w8 380 (r .inferiors)
-  pub superiors : Column w8 380 (r .superiors)
-  pub formulas : Column w8 20 (r .«principal_formulas»)
-  pub grants : Column w8 20 (r .«principal_demarcations»)
-  pub lows : Column w8 190 (r .«exclusion_lows»)
-  pub highs : Column w8 190 (r .«exclusion_highs»)
-  pub needs : Column w8 380 (r .prerequisites)
-  pub dependents : Column w8 380 (r .dependents)
-  pub forms : Column w8 32 (r .«method_forms»)
-  pub methods : Column w64 32 (r .«method_privileges»)
+  pub user-objects : Column w8 mostUsers (r .«user_objects»)
+  pub user-roles : Column w16 mostUsers (r .«user_roles»)
+  pub labels : Column w8 mostEdges (r .«edge_labels»)
+  pub sources : Column w8 mostEdges (r .«edge_sources»)
+  pub targets : Column w8 mostEdges (r .«edge_targets»)
+  pub ops : Column w8 mostFormulas (r .«formula_ops»)
+  pub lefts : Column w8 mostFormulas (r .«formula_lefts»)
+  pub rights : Column w8 mostFormulas (r .«formula_rights»)
+  pub demarcations : Column w64 mostDemarcations (r .«demarcation_privileges»)
+  pub inferiors : Column w8 mostPairs (r .inferiors)
+  pub superiors : Column w8 mostPairs (r .superiors)
+  pub formulas : Column w8 mostPrincipals (r .«principal_formulas»)
+  pub grants : Column w8 mostPrincipals (r .«principal_demarcations»)
+  pub lows : Column w8 mostExclusions (r .«exclusion_lows»)
+  pub highs : Column w8 mostExclusions (r .«exclusion_highs»)
+  pub needs : Column w8 mostPairs (r .prerequisites)
+  pub dependents : Column w8 mostPairs (r .dependents)
+  pub forms : Column w8 mostMethods (r .«method_forms»)
+  pub methods : Column w64 mostMethods (r .«method_privileges»)
 
 one-low : (x : ℕ) → x < 256 → (i : ℕ) → at (x ∷ []) i < 256
 one-low x l zero = l

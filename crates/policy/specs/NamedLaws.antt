@@ -5,6 +5,7 @@ use mathlib.Core.Bool.{Bool, true, false, false≢true, not, _&&_}
 use native.Mathlib.Omega.{arith}
 use lib.Dec.{ltb, leb, eqb}
 use borrow.Author.Tests.{ltb-true}
+use Rattle.common.specs.Limits.{mostPrincipals}
 use Rattle.common.specs.Lists.{at, below}
 use Rattle.common.specs.ListLaws.{every-at, length-table, table-at}
 use Rattle.common.specs.BoolLaws.{and-cases}
@@ -39,7 +40,8 @@ module _ (r : Record) (loads : (j : Kind) → tableLoads r j ≡ true) (i : ℕ)
       in
       (ltb-true _ _ f, ltb-true _ _ d)
 
-  pub exclusion-named : i < r .«exclusion_count» → (at (r .«exclusion_lows») i < 20) × (at (r .«exclusion_highs») i < 20)
+  pub exclusion-named : i < r .«exclusion_count»
+      → (at (r .«exclusion_lows») i < mostPrincipals) × (at (r .«exclusion_highs») i < mostPrincipals)
   unfolding inRange
   exclusion-named l =
       let (a, b) = and-cases (ltb (at (r .«exclusion_lows») i) (at (r .«exclusion_highs») i)) _

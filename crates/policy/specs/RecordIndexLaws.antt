@@ -8,7 +8,7 @@ use native.Mathlib.Numerals.{add-one}
 use native.Mathlib.Decide.{decLt}
 use lib.ListN.{length, getD, take, drop, replicate, take-append-drop, List·getD-map, List·getD-eq-default}
 use lib.Seq.{take-at, length-take-le, drop-append-add, getD-drop}
-use Rattle.common.specs.Limits.{mostEdges, mostObjects}
+use Rattle.common.specs.Limits.{mostEdges, mostObjects, highestLabel}
 use Rattle.common.specs.Lists.{at, table}
 use Rattle.common.specs.BoolLaws.{and-cases}
 use Rattle.common.specs.ListLaws.{length-table, table-at, zero-at, zeros-at}
@@ -110,7 +110,7 @@ rising-columns {m} {least} {es} t few room {ls} {ss} {ts} a b c =
           omega (arith, a i l, b i l, c i l, a (i + 1) h, b (i + 1) h, c (i + 1) h, next i h);
     }
   where
-    parts : (i : ℕ) → i < length es → (at (getD es i []) 0 ≤ 15) × (at (getD es i []) 1 < m) × (at (getD es i []) 2 < m)
+    parts : (i : ℕ) → i < length es → (at (getD es i []) 0 ≤ highestLabel) × (at (getD es i []) 1 < m) × (at (getD es i []) 2 < m)
     parts i h = in-range-parts m (at (getD es i []) 0) (at (getD es i []) 1) (at (getD es i []) 2) (rising-range t i h)
 
     next : (i : ℕ) → i + 1 < length es → keyOf (getD es i []) < keyOf (getD es (i + 1) [])

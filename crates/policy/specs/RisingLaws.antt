@@ -9,7 +9,7 @@ use native.Mathlib.Omega.{arith}
 use lib.Dec.{ltb, leb, eqb}
 use borrow.Author.Tests.{ltb-true, ltb-false, leb-true, eqb-true}
 use Rattle.common.specs.BoolLaws.{and-cases}
-use Rattle.common.specs.Limits.{highestLabel}
+use Rattle.common.specs.Limits.{highestLabel, mostRelated}
 use Rattle.common.specs.Lists.{at}
 use Rattle.common.specs.ListLaws.{length-table}
 use Rattle.common.specs.QuantifierLaws.{every-table}
@@ -88,8 +88,8 @@ module _ (k : Kind) (i : ℕ) (r : Record) (v : List ℕ) (o : Octets (orderOf k
 
 -- ---- of a record whose tables load
 
--- two of at most 20 things
-octets-pair : (n a b : ℕ) → n ≤ 20 → pairInRange n a b ≡ true → Octets (a ∷ b ∷ [])
+-- two of so many things as may be related
+octets-pair : (n a b : ℕ) → n ≤ mostRelated → pairInRange n a b ≡ true → Octets (a ∷ b ∷ [])
 octets-pair n a b few e =
     let (x, f) = and-cases (ltb a n) _ e in
     let y = and-cases (ltb b n) _ f .0 in

@@ -44,11 +44,15 @@ module _ {least n : ℕ} (u : UserRoom least n) (objects o : ℕ) (e : first (ca
   pub user-more : {m after : ℕ} → after ≡ o + 1 → m ≡ n + 1 → UserRoom after m
   user-more g f = let m = user-order in record { most = omega arith }
 
--- ---- pairs of different things below 20, as pairs rise: so many before (a, b)
+-- ---- pairs of different things, as pairs rise: so many before (a, b)
+
+-- each of as many things as there may be has so many others
+abbrev others : ℕ
+others = mostPrincipals - 1
 
 pub record PairRoom (least n : ℕ) : Type 0 where
-  pub down : (a b : ℕ) → a < mostPrincipals → b < a → least ≤ pairKey a b → n ≤ 19 * a + b
-  pub up : (a b : ℕ) → b < mostPrincipals → a < b → least ≤ pairKey a b → n + 1 ≤ 19 * a + b
+  pub down : (a b : ℕ) → a < mostPrincipals → b < a → least ≤ pairKey a b → n ≤ others * a + b
+  pub up : (a b : ℕ) → b < mostPrincipals → a < b → least ≤ pairKey a b → n + 1 ≤ others * a + b
 
 pub pair-none : (n : ℕ) → n ≡ 0 → PairRoom 0 n
 pair-none n e = record { down = λ a b l h k. omega arith; up = λ a b l h k. omega arith }
@@ -94,7 +98,7 @@ module _ {least n : ℕ} (u : PairRoom least n) (things a b : ℕ) (few : things
 -- how many pairs have their lower below a
 abbrev pub before : ℕ → ℕ
 before zero = 0
-before (suc a) = before a + (19 - a)
+before (suc a) = before a + (others - a)
 
 before-adds : (a d : ℕ) → before a ≤ before (d + a)
 before-adds a zero = rw zero-add (let h : before a ≤ before a = omega arith in h)
@@ -136,7 +140,7 @@ module _ {least n : ℕ} (u : ExclusionRoom least n) (things a b : ℕ) (few : t
       omega arith
 
   pub exclusion-room : n < mostExclusions
-  exclusion-room = let r = next-lower 19 (let k = below in let h = rises in omega arith) in omega arith
+  exclusion-room = let r = next-lower others (let k = below in let h = rises in omega arith) in omega arith
 
   pub exclusion-more : {m after : ℕ} → after ≡ pairKey a b + 1 → m ≡ n + 1 → ExclusionRoom after m
   exclusion-more {m} {after} g f = record { up = λ x y ly lx z. go x y ly lx z (decLt a x) }

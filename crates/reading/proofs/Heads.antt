@@ -9,6 +9,7 @@ use native.Mathlib.Decide.{ℕ-discrete}
 use lib.ListN.{length, drop}
 use lib.Dec.{leb, eqb}
 use borrow.Author.Tests.{ne-eqb}
+use Rattle.common.specs.Limits.{mostObjects}
 use Rattle.common.specs.Lists.{at}
 use Rattle.common.specs.Causes.{first}
 use Rattle.common.specs.Refusals.{wrongKind}
@@ -65,20 +66,21 @@ module _ (text : List ℕ) where
 
       head-row :
           lineRefusal (reading (stage top blank)) head (f .os)
-          ≡ first (causes false (not (eqb version 1 && (leb 1 objects && leb objects 255))) false)
+          ≡ first (causes false (not (eqb version 1 && (leb 1 objects && leb objects mostObjects))) false)
       unfolding rowRefusal rowCauses inRange
       head-row =
           refused-row (reading (stage top blank)) head (f .os) (placed-first (reading (stage top blank)) (f .os) (f .ours) refl refl sizes)
           refl
           ∙ ap (rowRefusal head 1 blank) v
 
-      pub head-refused : (n : ℕ) (r : Record) → n ≡ first (causes false (not (eqb version 1 && (leb 1 objects && leb objects 255))) false)
+      pub head-refused : (n : ℕ) (r : Record)
+          → n ≡ first (causes false (not (eqb version 1 && (leb 1 objects && leb objects mostObjects))) false)
           → n ≢ 0 → Starts text (refusedAt top n r)
       head-refused n r e h =
           starts-not n r h
           (read-not (reading (stage top blank)) text 0 (f .within) (f .framed) head (ap kindOf (f .ours)) (head-row ∙ sym e) h)
 
-      pub head-taken : 0 ≡ first (causes false (not (eqb version 1 && (leb 1 objects && leb objects 255))) false)
+      pub head-taken : 0 ≡ first (causes false (not (eqb version 1 && (leb 1 objects && leb objects mostObjects))) false)
           → Starts text (stage (movedPast top 0x01 next sum) (appended head blank (version ∷ objects ∷ [])))
       unfolding afterLine rowRefusal rowCauses inRange
       head-taken e =
@@ -106,7 +108,8 @@ module _ (text : List ℕ) where
           s : Stage
           s = stage (movedPast top 0x01 next sum) (appended head blank (version ∷ objects ∷ []))
 
-          passes : rowRefusal head 1 blank w ≡ first (causes false (not (eqb version 1 && (leb 1 objects && leb objects 255))) false)
+          passes : rowRefusal head 1 blank w
+              ≡ first (causes false (not (eqb version 1 && (leb 1 objects && leb objects mostObjects))) false)
           passes = refl
 
           moved : read (reading (stage top blank)) (lines (drop 0 text)) ≡ read (reading s) (lines (drop next text))

@@ -7,6 +7,7 @@ use native.Mathlib.Nat.{eq-or-lt-of-le}
 use native.Mathlib.Omega.{arith}
 use lib.Dec.{ltb, leb, eqb}
 use borrow.Author.Tests.{ne-eqb}
+use Rattle.common.specs.Limits.{highestLabel, highestRole, highestSlot}
 use Rattle.rows.specs.Op.{unknown, opOf, partsInRange, heightOf}
 
 -- an op above 11 is unknown
@@ -38,7 +39,7 @@ module _ (i a b : ℕ) where
   parts-plain (suc (suc zero)) l = refl
   parts-plain (suc (suc (suc n))) l = absurd (omega arith)
 
-  pub parts-role : (op : ℕ) → op ≡ 3 → (leb a 15 && eqb b 0) ≡ partsInRange (opOf op) i a b
+  pub parts-role : (op : ℕ) → op ≡ 3 → (leb a highestRole && eqb b 0) ≡ partsInRange (opOf op) i a b
   parts-role op e = rw e
 
   pub parts-not : (op : ℕ) → op ≡ 4 → (ltb a i && eqb b 0) ≡ partsInRange (opOf op) i a b
@@ -47,16 +48,16 @@ module _ (i a b : ℕ) where
   pub parts-two : (op : ℕ) → 5 ≤ op → op ≤ 6 → (ltb a i && ltb b i) ≡ partsInRange (opOf op) i a b
   parts-two op l h = ⊎-elim (λ e. rw e) (λ e. rw e) (either 5 op l h)
 
-  pub parts-step : (op : ℕ) → 7 ≤ op → op ≤ 8 → (leb a 15 && ltb b i) ≡ partsInRange (opOf op) i a b
+  pub parts-step : (op : ℕ) → 7 ≤ op → op ≤ 8 → (leb a highestLabel && ltb b i) ≡ partsInRange (opOf op) i a b
   parts-step op l h = ⊎-elim (λ e. rw e) (λ e. rw e) (either 7 op l h)
 
-  pub parts-keeping : (op : ℕ) → op ≡ 9 → (leb a 3 && ltb b i) ≡ partsInRange (opOf op) i a b
+  pub parts-keeping : (op : ℕ) → op ≡ 9 → (leb a highestSlot && ltb b i) ≡ partsInRange (opOf op) i a b
   parts-keeping op e = rw e
 
-  pub parts-in-slot : (op : ℕ) → op ≡ 10 → (leb a 3 && eqb b 0) ≡ partsInRange (opOf op) i a b
+  pub parts-in-slot : (op : ℕ) → op ≡ 10 → (leb a highestSlot && eqb b 0) ≡ partsInRange (opOf op) i a b
   parts-in-slot op e = rw e
 
-  pub parts-at-slot : (op : ℕ) → op ≡ 11 → (leb a 3 && ltb b i) ≡ partsInRange (opOf op) i a b
+  pub parts-at-slot : (op : ℕ) → op ≡ 11 → (leb a highestSlot && ltb b i) ≡ partsInRange (opOf op) i a b
   parts-at-slot op e = rw e
 
   pub parts-unknown : (op : ℕ) → 11 < op → false ≡ partsInRange (opOf op) i a b

@@ -5,6 +5,7 @@ use mathlib.Core.Logic.{_↔_}
 use mathlib.Core.Bool.{Bool, true}
 use mathlib.Core.List.{List}
 use native.Mathlib.Omega.{arith}
+use Rattle.common.specs.Limits.{mostRelated, mostPairs}
 use Rattle.common.specs.BoolLaws.{same-test}
 use Rattle.closure.specs.Closure.{On, Listed, pairsOf, Star, Below, Circle, circular}
 use Rattle.closure.specs.ClosureFact.{circle-circular}
@@ -12,12 +13,13 @@ use Rattle.tables.specs.Loads.{pairsLoad}
 use Rattle.tables.specs.LoadsLaws.{pairs-few, pairs-named, pairs-proper}
 
 -- the code's relation, closed, has a circle exactly when the pairs have one
-pub circular-pairs : (things n : ℕ) (a b : List ℕ) (m : List (List Bool)) {res : Bool} → pairsLoad things n a b ≡ true → things ≤ 20
-    → ((i j : ℕ) → i < 20 → j < 20 → (On m i j ↔ Listed (pairsOf (min n 380) a b) i j))
-    → (res ≡ true ↔ Circle (Star (Below (min things 20) (On m)))) → res ≡ circular (pairsOf n a b)
+pub circular-pairs : (things n : ℕ) (a b : List ℕ) (m : List (List Bool)) {res : Bool} → pairsLoad things n a b ≡ true
+    → things ≤ mostRelated
+    → ((i j : ℕ) → i < mostRelated → j < mostRelated → (On m i j ↔ Listed (pairsOf (min n mostPairs) a b) i j))
+    → (res ≡ true ↔ Circle (Star (Below (min things mostRelated) (On m)))) → res ≡ circular (pairsOf n a b)
 circular-pairs things n a b m {res} loads few rel c =
-    let all : min n 380 ≡ n = omega (arith, pairs-few things n a b loads) in
-    let size : min things 20 ≡ things = omega arith in
+    let all : min n mostPairs ≡ n = omega (arith, pairs-few things n a b loads) in
+    let size : min things mostRelated ≡ things = omega arith in
     let law = circle-circular (pairsOf n a b) {R = On m} (pairs-named things n a b loads)
     (λ i j li lj. subst (λ (k : ℕ). On m i j ↔ Listed (pairsOf k a b) i j) all (rel i j (omega arith) (omega arith)))
     (pairs-proper things n a b loads) in

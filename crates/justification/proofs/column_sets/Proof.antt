@@ -5,6 +5,7 @@ use mathlib.Core.Bool.{false}
 use mathlib.Core.List.{[]}
 use native.Mathlib.Omega.{arith}
 use lib.ListN.{length, getD, length-set}
+use Rattle.common.specs.Limits.{mostRelated}
 use Rattle.common.specs.Lists.{at}
 use Rattle.justification.specs.MarkedSets.{Marks}
 use Rattle.justification.proofs.Marking.{stored}
@@ -13,7 +14,8 @@ use Rattle.justification.proofs.column_sets.Statement.{statement}
 use Rattle.justification.proofs.column_sets.Tie as tie
 
 abbrev Inv-loop : tie.InvT-loop
-Inv-loop c n sets₀ j₀ sets j = ((k : ℕ) → k < j → Marks n (λ i. getD (getD c i []) k false) (at sets k)) × (length sets ≡ 20) × (j ≤ n)
+Inv-loop c n sets₀ j₀ sets j =
+    ((k : ℕ) → k < j → Marks n (λ i. getD (getD c i []) k false) (at sets k)) × (length sets ≡ mostRelated) × (j ≤ n)
 
 abbrev μ-loop : tie.MeasureT-loop
 μ-loop c n sets₀ j₀ sets j = n - j

@@ -5,6 +5,7 @@ use mathlib.Core.Logic.{_↔_}
 use mathlib.Core.Bool.{true}
 use native.Mathlib.Omega.{arith}
 use lib.ListN.{length, length-set}
+use Rattle.common.specs.Limits.{mostPrincipals}
 use Rattle.common.specs.Lists.{at}
 use Rattle.common.specs.Sets.{In}
 use Rattle.closure.specs.Closure.{pairsOf}
@@ -19,7 +20,7 @@ abbrev Inv-loop : tie.InvT-loop
 Inv-loop demarcations lists pairs inferiors superiors principals held below listed grants₀ p₀ grants p =
     ((k : ℕ) → k < p → (j : ℕ)
     → (In j (at grants k) ↔ (hasBelow (pairsOf pairs inferiors superiors) demarcations lists (at held k) j ≡ true)))
-    × (length grants ≡ 20) × (p ≤ principals)
+    × (length grants ≡ mostPrincipals) × (p ≤ principals)
 
 abbrev μ-loop : tie.MeasureT-loop
 μ-loop demarcations lists pairs inferiors superiors principals held below listed grants₀ p₀ grants p = principals - p
@@ -38,7 +39,7 @@ abbrev in-loop : tie.After-index Inv-loop μ-loop → tie.In-loop Inv-loop μ-lo
 in-loop c = c .before .before
 
 -- inside the loop: the principal is one of twenty, and so is its demarcation
-few : (i : tie.In-loop Inv-loop μ-loop) → i .before .loop .p < 20
+few : (i : tie.In-loop Inv-loop μ-loop) → i .before .loop .p < mostPrincipals
 few i = omega (arith, entry (i .before) .pre .2, i .loop-test .taken)
 
 small : (c : tie.After-index Inv-loop μ-loop) → c .index .result < entry (in-loop c .before) .args .demarcations

@@ -7,6 +7,7 @@ use lib.ListN.{length}
 use mir.Val.{Val}
 use denote.Shadow.{shadow}
 use denote.Struct.Field.{bool-field, array-field}
+use Rattle.common.specs.Limits.{mostFormulas}
 use Rattle.memo.specs.WalkLaws.{MemoLengths}
 use Rattle.memo.specs.StepLaws.{lengths-for}
 use Rattle.memo.proofs.Memos.{same-pair, other-object, other-requestor}
@@ -25,7 +26,10 @@ length-of n c vs p = ap length (sym (map-id c)) ∙ p .1 .0 .1
 lengths : (s : tie.Start) → MemoLengths (s .args .memo)
 lengths s =
     let f = s .good .0 .1 .1 .1 .1 in
-    record { knowns = length-of 64 (s .args .memo .known) _ (f .0); values = length-of 64 (s .args .memo .value) _ (f .1 .0) }
+    record {
+      knowns = length-of mostFormulas (s .args .memo .known) _ (f .0);
+      values = length-of mostFormulas (s .args .memo .value) _ (f .1 .0);
+    }
 
 -- past the first test; and the function's entry, from there
 abbrev same-object : tie.Else2 → tie.Else1

@@ -1,16 +1,17 @@
 -- `newly` meets its contract.
 use Prim.Native.Nat.{_-_, _≤_}
 use native.Mathlib.Omega.{arith}
+use Rattle.common.specs.Limits.{mostFormulas}
 use Rattle.memo.proofs.Memos.{Counted, counted-none, counted-more, counted-all}
 use borrow.Author.Needs.{needs}
 use Rattle.memo.proofs.newly.Statement.{statement}
 use Rattle.memo.proofs.newly.Tie as tie
 
 abbrev Inv-loop : tie.InvT-loop
-Inv-loop before after count₀ f₀ count f = Counted before after count f × (f ≤ 64)
+Inv-loop before after count₀ f₀ count f = Counted before after count f × (f ≤ mostFormulas)
 
 abbrev μ-loop : tie.MeasureT-loop
-μ-loop before after count₀ f₀ count f = 64 - f
+μ-loop before after count₀ f₀ count f = mostFormulas - f
 
 loop-holds : tie.Need-loop-holds Inv-loop μ-loop
 loop-holds c = (counted-none _ _, omega arith)

@@ -2,6 +2,7 @@
 use mathlib.Core.Path.{_≡_, sym, _∙_}
 use Prim.Native.Nat.{_<_}
 use mathlib.Core.Bool.{true}
+use Rattle.common.specs.Limits.{mostMethods}
 use Rattle.policy.specs.Loadable.{tableLoads}
 use native.Mathlib.Omega.{arith}
 use Rattle.policy.specs.LoadableLaws.{table-few, loadable-table}
@@ -45,7 +46,7 @@ module _ (h : tie.After-index) where
   tables : (j : Kind) → tableLoads (start .args .t1) j ≡ true
   tables = loadable-table _ (may .loads)
 
-  in-range : h .index .result < 32
+  in-range : h .index .result < mostMethods
   in-range = let n = table-few _ method (tables method) in omega (arith, h .index .ensures, may .method)
 
 mul-listed : tie.Need-mul-listed

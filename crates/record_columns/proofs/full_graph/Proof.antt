@@ -1,14 +1,15 @@
 -- `full_graph` ends and stores within its arrays.
 use Prim.Native.Nat.{_-_, _≤_}
 use borrow.Author.Needs.{needs}
+use Rattle.common.specs.Limits.{mostEdges}
 use Rattle.record_columns.proofs.full_graph.Statement.{statement}
 use Rattle.record_columns.proofs.full_graph.Tie as tie
 
 abbrev Inv-loop : tie.InvT-loop
-Inv-loop rules₀ i₀ rules i = i ≤ 512
+Inv-loop rules₀ i₀ rules i = i ≤ mostEdges
 
 abbrev μ-loop : tie.MeasureT-loop
-μ-loop rules₀ i₀ rules i = 512 - i
+μ-loop rules₀ i₀ rules i = mostEdges - i
 
 full-index-requires : tie.Need-full-index-requires Inv-loop μ-loop
 full-index-requires c κs = search needs

@@ -1,14 +1,15 @@
 -- `full_index` ends and stores within its arrays.
 use Prim.Native.Nat.{_-_, _≤_}
 use borrow.Author.Needs.{needs}
+use Rattle.common.specs.Limits.{mostEdges}
 use Rattle.record_columns.proofs.full_index.Statement.{statement}
 use Rattle.record_columns.proofs.full_index.Tie as tie
 
 abbrev Inv-loop : tie.InvT-loop
-Inv-loop index₀ i₀ index i = i ≤ 512
+Inv-loop index₀ i₀ index i = i ≤ mostEdges
 
 abbrev μ-loop : tie.MeasureT-loop
-μ-loop index₀ i₀ index i = 512 - i
+μ-loop index₀ i₀ index i = mostEdges - i
 
 element-write-index : tie.Need-element-write-index Inv-loop μ-loop
 element-write-index c = search needs

@@ -2,6 +2,7 @@
 use mathlib.Core.Path.{_∙_}
 use mathlib.Core.Bool.{not}
 use lib.Dec.{ltb, leb}
+use Rattle.common.specs.Limits.{mostEdges}
 use Rattle.common.specs.Causes.{first}
 use Rattle.rows.specs.Checks.{causes}
 use borrow.Author.Needs.{needs}
@@ -22,7 +23,8 @@ returns c =
     let a = c .before .before .before .args in
     c .first-cause .ensures
     ∙ (λ i. first
-    (causes (leb 512 (a .row)) (not (c .before .before .edge-in-range .ensures i)) (ltb (c .before .edge-key .ensures i) (a .minimum))))
+    (causes (leb mostEdges (a .row)) (not (c .before .before .edge-in-range .ensures i))
+    (ltb (c .before .edge-key .ensures i) (a .minimum))))
 
 pub edge-refusal-spec : {M : Type 1} → statement M
 edge-refusal-spec =

@@ -2,6 +2,7 @@
 use mathlib.Core.Path.{_∙_}
 use mathlib.Core.Bool.{false, not, _&&_}
 use lib.Dec.{leb}
+use Rattle.common.specs.Limits.{mostFormulas, greatestHeight}
 use Rattle.common.specs.Causes.{first}
 use Rattle.rows.specs.Checks.{causes}
 use borrow.Author.Needs.{needs}
@@ -18,7 +19,7 @@ returns : tie.Need-returns
 returns c =
     let a = c .before .before .args in
     c .first-cause .ensures
-    ∙ (λ i. first (causes (leb 64 (a .row)) (not (c .before .parts-in-range .ensures i && leb (a .height) 8)) false))
+    ∙ (λ i. first (causes (leb mostFormulas (a .row)) (not (c .before .parts-in-range .ensures i && leb (a .height) greatestHeight)) false))
 
 pub formula-refusal-spec : {M : Type 1} → statement M
 formula-refusal-spec = tie.close (tie.spec parts-in-range-requires first-cause-requires returns)

@@ -4,6 +4,7 @@ use mathlib.Core.Bool.{Bool, false, not, _&&_}
 use native.Mathlib.Omega.{arith}
 use lib.Dec.{leb, eqb}
 use borrow.Author.Tests.{le-leb}
+use Rattle.common.specs.Limits.{mostObjects}
 use Rattle.common.specs.BoolLaws.{and-true}
 use Rattle.common.specs.Causes.{first}
 use Rattle.rows.specs.Checks.{causes}
@@ -19,7 +20,8 @@ returns c =
     let a = c .before .args in
     c .first-cause .ensures
     ∙ (λ i. first (causes false (not (eqb (a .version) 1
-    && (sym (and-true (leb 1 (a .objects))) ∙ ap (λ (b : Bool). leb 1 (a .objects) && b) (sym (le-leb (a .objects) 255 (omega arith)))) i))
+    && (sym (and-true (leb 1 (a .objects)))
+    ∙ ap (λ (b : Bool). leb 1 (a .objects) && b) (sym (le-leb (a .objects) mostObjects (omega arith)))) i))
     false))
 
 pub head-refusal-spec : {M : Type 1} → statement M

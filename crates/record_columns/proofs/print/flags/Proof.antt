@@ -1,6 +1,7 @@
 use Prim.Native.Nat.{_-_, _≤_}
 use lib.ListN.{length}
 use borrow.Author.Needs.{needs}
+use Rattle.common.specs.Limits.{mostFormulas}
 use Rattle.record_columns.proofs.print.flags.Statement.{statement}
 use Rattle.record_columns.proofs.print.flags.Tie as tie
 use Rattle.record_columns.proofs.print.flags.Reads as reads
@@ -9,10 +10,10 @@ use Rattle.io.proofs.print_decimal.Reads as print-decimal-reads
 use Rattle.record_columns.proofs.print.character.Reads as character-reads
 
 abbrev Inv-loop : tie.InvT-loop
-Inv-loop set f₀ f = f ≤ 64
+Inv-loop set f₀ f = f ≤ mostFormulas
 
 abbrev μ-loop : tie.MeasureT-loop
-μ-loop set f₀ f = 64 - f
+μ-loop set f₀ f = mostFormulas - f
 
 -- src/print.rt:28:5
 character-requires : tie.Need-character-requires Inv-loop μ-loop
