@@ -1,5 +1,6 @@
-use Prim.Native.Nat.{_-_, _≤_}
+use Prim.Native.Nat.{_*_, _-_, _≤_}
 use lib.ListN.{length}
+use Rattle.common.specs.Limits.{mostEdges}
 use borrow.Author.Needs.{needs}
 use Rattle.record_columns.proofs.same_record.Statement.{statement}
 use Rattle.record_columns.proofs.same_record.Tie as tie
@@ -9,10 +10,10 @@ use Rattle.record_columns.proofs.number_at.Reads as number-at-reads
 use Rattle.record_columns.proofs.same_counts.Reads as same-counts-reads
 
 abbrev Inv-loop : tie.InvT-loop
-Inv-loop a b same₀ n₀ same n = n ≤ 12288
+Inv-loop a b same₀ n₀ same n = n ≤ 24 * mostEdges
 
 abbrev μ-loop : tie.MeasureT-loop
-μ-loop a b same₀ n₀ same n = 12288 - n
+μ-loop a b same₀ n₀ same n = 24 * mostEdges - n
 
 -- src/lib.rt:161:9
 same-counts-requires : tie.Need-same-counts-requires Inv-loop μ-loop
