@@ -1,5 +1,7 @@
 #include "formulas.h"
 
+const uint8_t ops_with_part[WITH_PART] = {NOT, AND, OR, FORWARD, BACKWARD, KEEP, AT};
+
 /* What is in a formula: the bits of its uses, the slots asked for outside of an op 9 on them, and those kept to be asked for. */
 struct content {
     unsigned uses, asked, kept;
@@ -56,15 +58,44 @@ static struct content content_of(const uint8_t *body, const struct content *befo
 unsigned uses_of(const struct bundle *bundle)
 {
     struct content contents[256];
-    unsigned uses = 0;
+    unsigned heights[256], uses = 0;
     size_t i, formulas = 0;
 
     for (i = 0; i < bundle->count; i++) {
         const uint8_t *octets = bundle->lines[i].octets;
-        if (octets[1] == FORMULA)
-            contents[formulas] = content_of(octets + 2, contents), formulas++;
+        if (octets[1] == FORMULA) {
+            contents[formulas] = content_of(octets + 2, contents);
+            heights[formulas] = height_over(octets + 2, heights);
+            contents[formulas].uses |= heights[formulas] == HIGHEST ? 1u << (HIGHEST_BY + octets[2]) : 0;
+            formulas++;
+        }
         if (octets[1] == PRINCIPAL)
             uses |= contents[octets[2]].uses | (contents[octets[2]].asked ? 1u << ASKS_UNSET : 0);
     }
     return uses;
+}
+
+/* Whether the numbers of a formula with a part are in range behind so many others. */
+static bool numbers_fit(const uint8_t *body, size_t own)
+{
+    unsigned op = body[0], most = op < KEEP ? LABELS : SLOTS;
+
+    if (!a_is_part(op) && !b_is_part(op))
+        return false;
+    return body[1] < (a_is_part(op) ? own : most) && (b_is_part(op) ? body[2] < own : body[2] == 0);
+}
+
+/* The op of the formula at a place behind lines that are accepted, where nothing but its height is out of range; else 0. */
+unsigned too_high_by(const struct bundle *bundle, size_t place)
+{
+    const uint8_t *octets = bundle->lines[place].octets;
+    unsigned heights[256];
+    size_t i, formulas = 0;
+
+    for (i = 0; i < place; i++)
+        if (kind_of(&bundle->lines[i]) == FORMULA)
+            heights[formulas] = height_over(bundle->lines[i].octets + 2, heights), formulas++;
+    if (octets[1] != FORMULA || !numbers_fit(octets + 2, formulas))
+        return 0;
+    return height_over(octets + 2, heights) > HIGHEST ? octets[2] : 0;
 }

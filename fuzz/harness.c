@@ -6,6 +6,7 @@
 #include "check.h"
 #include "cost.h"
 #include "coverage.h"
+#include "formulas.h"
 #include "lent.h"
 #include "random.h"
 #include "sets.h"
@@ -123,6 +124,15 @@ static void check_altered(void)
     if (value)
         check_refused(value);
     *place = byte;
+}
+
+/* Counts a refused bundle if it is the height of a formula that it is refused for. */
+static void note_height(uint64_t refusal)
+{
+    if (refusal >> 32 != ACCESS_OUT_OF_RANGE)
+        return;
+    bundle_read(&lines, text);
+    tally_too_high(too_high_by(&lines, (uint32_t)refusal - 1));
 }
 
 /* A refused bundle has no answers: its number, value 0, and the buffer stays. */
@@ -322,6 +332,7 @@ int LLVMFuzzerTestOneInput(const uint8_t *data, size_t size)
     calls = placed(&calls_area, input.calls);
     refusal = check_rewrites();
     if (refusal != 0) {
+        note_height(refusal);
         check_unanswered(refusal >> 32);
         check_lent_refused(refusal);
     } else {

@@ -5,6 +5,7 @@
 
 #include "../include/case_access.h"
 #include "check.h"
+#include "heights.h"
 #include "index.h"
 #include "random.h"
 #include "tally.h"
@@ -340,48 +341,84 @@ static void check_altered_record(void)
     must(memcmp(engine_area.lent, theirs, room) == 0, "answer: not that of the bundle that the record writes");
 }
 
-/* One call of each kind is refused, and so is writing; the record and the buffer stay. */
+/* One call of each kind is refused, and so are the list and writing; the record and the buffer stay. */
 static void check_each_refused(access_record *record)
 {
     access_record before = *record;
     uint8_t call[CALL] = {0};
+    size_t room = ANSWER * (calls.length / CALL);
 
     lend(ANSWER);
     for (call[0] = ACCESS_CALL_ADD; call[0] <= ACCESS_CALL_TICKET; call[0]++) {
         access_answer(record, call, CALL, engine_area.lent, ANSWER);
-        must(engine_area.lent[0] == 19, "answer: not 19 with an index that disagrees");
+        must(engine_area.lent[0] == 19, "answer: not 19 with an index that disagrees or a formula that is too high");
     }
     lend(text.length);
-    must(access_write(record, engine_area.lent, text.length) == (uint64_t)19 << 32, "write: not 19 with an index that disagrees");
+    must(access_write(record, engine_area.lent, text.length) == (uint64_t)19 << 32,
+         "write: not 19 with an index that disagrees or a formula that is too high");
     must(area_stays(&engine_area, 0), "write: 19 changed the buffer");
-    must(memcmp(&before, record, IN_USE) == 0, "19 with an index that disagrees changed the record");
+    must(memcmp(&before, record, IN_USE) == 0, "19 with an index that disagrees or a formula that is too high changed the record");
+    lend(room);
+    access_answer(record, calls.start, calls.length, engine_area.lent, room);
+    check_unloadable(engine_area.lent, calls.length / CALL, memcmp(&before, record, IN_USE) == 0);
+}
+
+/* A record that differs from the first one in formulas alone, if at all, answers as that does and is left as that is, but for them. */
+static void check_answers_stay(access_record record)
+{
+    static uint8_t theirs[ANSWER * MOST_CALLS];
+    access_record other = *first.engine;
+    struct formula_table formulas = formulas_of(&record);
+    size_t room = ANSWER * (calls.length / CALL);
+
+    lend(room);
+    access_answer(&record, calls.start, calls.length, engine_area.lent, room);
+    access_answer(&other, calls.start, calls.length, theirs, room);
+    must(memcmp(engine_area.lent, theirs, room) == 0, "answer: otherwise once the record was put right, or with formulas that nobody has");
+    formulas_put(&other, formulas);
+    must(memcmp(&record, &other, IN_USE) == 0, "answer: another record once it was put right, or with formulas that nobody has");
 }
 
 /* An index that disagrees with the edges: every call is refused and the record stays; put right, it answers. By the engine alone. */
 static void check_altered_index(void)
 {
-    static uint8_t theirs[ANSWER * MOST_CALLS];
-    static access_record altered, before, other;
+    access_record altered = *first.engine;
     struct edge_index right = index_of(first.engine);
     unsigned way = below(WAYS);
     struct edge_index wrong = index_altered(right, way);
-    size_t room = ANSWER * (calls.length / CALL);
 
     if (memcmp(&right, &wrong, sizeof wrong) == 0)
         return;
-    altered = other = *first.engine;
     index_put(&altered, wrong);
-    before = altered;
     check_each_refused(&altered);
-    lend(room);
-    access_answer(&altered, calls.start, calls.length, engine_area.lent, room);
-    check_unloadable(engine_area.lent, calls.length / CALL, memcmp(&before, &altered, IN_USE) == 0);
     index_put(&altered, right);
-    access_answer(&altered, calls.start, calls.length, engine_area.lent, room);
-    access_answer(&other, calls.start, calls.length, theirs, room);
-    must(memcmp(engine_area.lent, theirs, room) == 0, "answer: otherwise once the index was put right");
-    must(memcmp(&altered, &other, IN_USE) == 0, "answer: another record once the index was put right");
+    check_answers_stay(altered);
     tally_lent_misindexed(way);
+}
+
+/* Formulas put on top of the others: up to the greatest height the record is written and answers as before; with one that is higher
+ * every call is refused and the record stays; without it, it answers. By the engine alone. */
+static void check_raised(void)
+{
+    static uint8_t bytes[AREA];
+    access_record altered = *first.engine, other = ACCESS_RECORD_ZERO;
+    struct formula_table right = formulas_of(first.engine), highest = right, higher;
+    uint64_t value;
+
+    if (!formulas_raise(&highest, HIGHEST))
+        return;
+    formulas_put(&altered, highest);
+    value = access_write(&altered, bytes, sizeof bytes);
+    must(value >> 32 == 0 && access_load(&other, bytes, (size_t)value) == 0, "write: refused with a formula of the greatest height");
+    check_answers_stay(altered);
+    higher = highest;
+    if (!formulas_raise(&higher, HIGHEST + 1))
+        return;
+    formulas_put(&altered, higher);
+    check_each_refused(&altered);
+    formulas_put(&altered, right);
+    check_answers_stay(altered);
+    tally_lent_too_high(higher.ops[highest.count]);
 }
 
 /* The calls that evaluate afresh; the length of them. */
@@ -437,6 +474,7 @@ void check_lent(const uint8_t *answers)
     if (one_in(2))
         check_altered_record();
     check_altered_index();
+    check_raised();
     check_afresh();
     if (calls.length >= CALL && one_in(3))
         check_turns(answers);

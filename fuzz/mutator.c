@@ -43,7 +43,7 @@ static uint8_t an_object(void)
 /* Another value for an octet: near the old one, small, at a limit, or any. */
 static uint8_t another(uint8_t old)
 {
-    static const uint8_t limits[] = {0, 1, 3, 4, 8, 9, 11, 12, 15, 16, 19, 20, 31, 32, 63, 64, 127, 128, 254, 255};
+    static const uint8_t limits[] = {0, 1, 3, 4, 5, 6, 11, 12, 15, 16, 19, 20, 31, 32, 63, 64, 127, 128, 254, 255};
     unsigned objects = objects_of(&bundle);
 
     switch (below(6)) {
@@ -219,38 +219,66 @@ static uint8_t *body_of(unsigned kind, size_t number)
     return NULL;
 }
 
-/* Adds formulas that ask for a slot: whether it holds here, what is true at its vertex, or whether it holds here beside its op 9. */
-static void add_asking(uint8_t slot)
+/* Adds formulas that ask for a slot: whether it holds here, what is true at its vertex, or whether it holds here beside its op 9. The
+ * height of the last one. */
+static unsigned add_asking(uint8_t slot)
 {
     switch (below(5)) {
     case 0:
     case 1:
         add_on_top(HERE, slot);
-        break;
+        return 0;
     case 2:
     case 3:
         add_on_top((uint8_t)(1 + below(2)), 0), add_on_top(AT, slot);
-        break;
+        return 1;
     default:
-        add_on_top(HERE, slot), add_on_top(KEEP, slot), add_on_top(HERE, slot), add_on_top((uint8_t)(5 + below(2)), 0);
+        add_on_top(HERE, slot), add_on_top(KEEP, slot), add_on_top(HERE, slot), add_on_top((uint8_t)(AND + below(2)), 0);
+        return 2;
     }
 }
 
-/* Adds formulas that keep a vertex, or two, mostly go elsewhere, and ask for it there. */
+/* Adds formulas that keep a vertex, or two, mostly go elsewhere, and ask for it there, as far as heights allow. */
 static void add_naming(void)
 {
-    static const uint8_t between[] = {FORWARD, FORWARD, FORWARD, BACKWARD, BACKWARD, NOT, 5, 6, KEEP, AT};
+    static const uint8_t between[] = {FORWARD, FORWARD, FORWARD, BACKWARD, BACKWARD, NOT, AND, OR, KEEP, AT};
     uint8_t slot = a_slot();
-    unsigned kept, steps;
+    unsigned kept, steps, left = HIGHEST - add_asking(slot);
 
-    add_asking(slot);
     for (kept = 1 + below(2); kept > 0; kept--) {
-        for (steps = below(4); steps > 0; steps--)
+        for (steps = below(4); steps > 0 && left > kept; steps--, left--)
             add_on_top(between[below(sizeof between)], one_in(2) ? slot : a_slot());
-        add_on_top(KEEP, one_in(4) ? a_slot() : slot);
+        add_on_top(KEEP, one_in(4) ? a_slot() : slot), left--;
     }
-    if (one_in(3))
+    if (left > 0 && one_in(3))
         add_on_top((uint8_t)(FORWARD + below(2)), 0);
+}
+
+/* Adds a formula of an op with a part on top of the last one. Where it has two parts that is either of them, and the other one is given. */
+static void add_above(uint8_t op, uint8_t other)
+{
+    struct line line = {.octets = {0, FORMULA}, .count = 3 + body_length(FORMULA)};
+    uint8_t *body = line.octets + 2, last;
+
+    fill_op(body, op, true);
+    last = body[2];
+    if (op == AND || op == OR)
+        body[1] = one_in(2) ? last : other, body[2] = body[1] == last ? other : last;
+    if (op >= KEEP)
+        body[1] = (uint8_t)(body[1] % SLOTS);
+    append_line(line);
+}
+
+/* Adds formulas that rise to a height, each on top of the one before, by any ops with a part; the last of them is of the given op. */
+static void add_rising(unsigned height, uint8_t op)
+{
+    uint8_t lowest = (uint8_t)count_of(&bundle, FORMULA);
+    unsigned i;
+
+    add_on_top(an_op(0), (uint8_t)below(SLOTS));
+    for (i = 1; i < height; i++)
+        add_above(ops_with_part[below(WITH_PART)], lowest);
+    add_above(op, lowest);
 }
 
 /* Adds many lines of a kind, now and then up to its limit and one more. */
@@ -439,17 +467,6 @@ static void drop_misfits(void)
     }
 }
 
-/* Adds a formula that is one too high, mostly by ops 9 and 11, above those that it is made of. */
-static void add_too_high(void)
-{
-    static const uint8_t ops[] = {KEEP, KEEP, KEEP, AT, AT, AT, NOT, FORWARD, BACKWARD};
-    unsigned height;
-
-    add_on_top(HERE, brought(a_slot(), SLOTS));
-    for (height = 1; height <= HIGHEST + 1; height++)
-        add_on_top(ops[below(sizeof ops)], brought(a_slot(), SLOTS));
-}
-
 /* Makes a formula wrong: an op past the last, a slot past the last, or a number where op 10 has none; or adds one that is too high. */
 static void spoil_formula(void)
 {
@@ -457,7 +474,7 @@ static void spoil_formula(void)
     uint8_t *body = body_of(FORMULA, number);
 
     if (!body || one_in(4)) {
-        add_too_high();
+        add_rising(HIGHEST + 1, ops_with_part[below(WITH_PART)]);
         return;
     }
     switch (below(3)) {
@@ -590,13 +607,16 @@ static void insert_call(size_t place, const uint8_t *call)
     calls_length += CALL;
 }
 
-/* Gives formulas that name a vertex to a principal, and proposes that one alone in a few tickets. */
-static void change_naming(void)
+/* Gives formulas that name a vertex, or that are as high as there may be, to a principal, and proposes it alone in a few tickets. */
+static void change_principal(void)
 {
     uint8_t call[CALL] = {ACCESS_CALL_TICKET}, *principal;
     unsigned number, tickets;
 
-    add_naming();
+    if (one_in(3))
+        add_rising(HIGHEST, ops_with_part[below(WITH_PART)]);
+    else
+        add_naming();
     if (one_in(4) || count_of(&bundle, PRINCIPAL) == 0)
         add_line(PRINCIPAL);
     number = below((unsigned)count_of(&bundle, PRINCIPAL));
@@ -765,8 +785,8 @@ size_t LLVMFuzzerCustomMutator(uint8_t *data, size_t size, size_t max_size, unsi
         return LLVMFuzzerMutate(data, size, max_size);
     read_input(data, size);
     for (steps = 1 + below(4); steps > 0; steps--)
-        if (one_in(20))
-            change_naming();
+        if (one_in(15))
+            change_principal();
         else if (one_in(2))
             change_calls();
         else

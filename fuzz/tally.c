@@ -8,7 +8,7 @@
 
 static size_t bundles[19], answers[23], kinds[8], granted, yes, tickets, dropped;
 static size_t parts, writes[20], again, of_edited, refused, altered[20];
-static size_t using[USES], evaluated[USES], misindexed[WAYS];
+static size_t using[USES], evaluated[USES], misindexed[WAYS], too_high[OPS], lent_too_high[OPS];
 
 /* What the formulas of the bundle at hand have in them. */
 static unsigned uses;
@@ -27,6 +27,12 @@ void tally_formulas(const struct bundle *bundle)
     uses = uses_of(bundle);
     for (i = 0; i < USES; i++)
         using[i] += uses >> i & 1;
+}
+
+/* Counts a bundle that is refused for the height of a formula, by its op. */
+void tally_too_high(unsigned op)
+{
+    too_high[op]++;
 }
 
 /* Counts a buffer that was too short. */
@@ -99,6 +105,12 @@ void tally_lent_misindexed(unsigned way)
     misindexed[way]++;
 }
 
+/* Counts a record with a formula that is too high, by its op. */
+void tally_lent_too_high(unsigned op)
+{
+    lent_too_high[op]++;
+}
+
 /* Prints the counts of lent records. */
 static void tally_lent_print(void)
 {
@@ -112,6 +124,24 @@ static void tally_lent_print(void)
     fprintf(stderr, "\n");
 }
 
+/* Prints the counts of formulas that are as high as there may be, and of those that are too high. */
+static void tally_heights_print(void)
+{
+    unsigned i;
+
+    fprintf(stderr, "the same, with a principal's formula of height %d, by its op:", HIGHEST);
+    for (i = 0; i < WITH_PART; i++) {
+        unsigned op = ops_with_part[i];
+        fprintf(stderr, "%s %u:%zu, %zu", i ? ";" : "", op, using[HIGHEST_BY + op], evaluated[HIGHEST_BY + op]);
+    }
+    fprintf(stderr, "\nwith a formula of height %d, by its op, bundles refused and lent records refused (19):", HIGHEST + 1);
+    for (i = 0; i < WITH_PART; i++) {
+        unsigned op = ops_with_part[i];
+        fprintf(stderr, "%s %u:%zu, %zu", i ? ";" : "", op, too_high[op], lent_too_high[op]);
+    }
+    fprintf(stderr, "\n");
+}
+
 /* Prints the counts of what is in formulas. */
 static void tally_formulas_print(void)
 {
@@ -119,9 +149,10 @@ static void tally_formulas_print(void)
     unsigned i;
 
     fprintf(stderr, "accepted bundles, and questions, liberal, strict and tickets past 14 to 16, with, in the principals' formulas,");
-    for (i = 0; i < USES; i++)
+    for (i = 0; i < HIGHEST_BY; i++)
         fprintf(stderr, "%s %s:%zu, %zu", i ? ";" : "", names[i], using[i], evaluated[i]);
     fprintf(stderr, "\n");
+    tally_heights_print();
 }
 
 /* Prints the counts. */

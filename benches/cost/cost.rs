@@ -64,6 +64,9 @@ const NO_SET: u32 = 4294967295;
 const EAGER: u8 = 2;
 const LAZY: u8 = 3;
 
+// The greatest height of a formula (request 2026-05).
+const HIGHEST: usize = 5;
+
 // ---- bundles
 
 struct Bundle {
@@ -143,7 +146,7 @@ fn stop(words: &str) -> ! {
 // ---- formulas of nested steps
 
 const OBJECTS: u8 = 22;
-const HEIGHTS: usize = 9;
+const HEIGHTS: usize = HIGHEST + 1;
 const ROUNDS: usize = 9;
 const LISTS: usize = 60;
 const QUESTIONS: usize = 20;
@@ -178,14 +181,14 @@ fn evaluations() -> [[u8; 8]; QUESTIONS] {
 fn formulas() {
     // innermost: a role that the requestor does not hold; here is the requestor; true
     let innermosts = [("true nowhere", [3, 0, 0]), ("at one object", [1, 0, 0]), ("everywhere", [0, 0, 0])];
-    let truths = [[0; HEIGHTS], [0, 1, 1, 1, 1, 1, 1, 1, 1], [1; HEIGHTS]];
+    let truths = [[false; HEIGHTS], std::array::from_fn(|height| height > 0), [true; HEIGHTS]];
     let mut records: Vec<Vec<Loaded>> = innermosts
         .iter()
         .map(|(_, innermost)| (0..HEIGHTS as u8).map(|h| Loaded::of(&joined(*innermost, h))).collect())
         .collect();
     for (of, truth) in records.iter_mut().zip(&truths) {
         for h in 0..HEIGHTS {
-            if of[h].ask(EAGER, 0, OBJECTS - 1) != if truth[h] == 1 { 1 } else { NO_SET } {
+            if of[h].ask(EAGER, 0, OBJECTS - 1) != if truth[h] { 1 } else { NO_SET } {
                 stop("an evaluation came to something else than it must");
             }
         }

@@ -2,14 +2,13 @@
 // many vertices one by one, and a climb from the slowest of them and from formulas drawn at random.
 
 use super::engine::Loaded;
-use super::{median, stop, timed, Bundle, Random, EAGER, SEED};
+use super::{median, stop, timed, Bundle, Random, EAGER, HIGHEST, SEED};
 use std::iter::Peekable;
 use std::time::{Duration, Instant};
 
-const HIGHEST: usize = 8;
 const LINES: usize = 64;
 const EDGES: usize = 512;
-const ROUNDS: usize = 5;
+const ROUNDS: usize = 9;
 // a role that both requestors hold; they hold no other
 const ROLE: u8 = 1;
 // an evaluation that takes less is compared with the plain one wherever it comes up; microseconds
@@ -167,21 +166,26 @@ struct Case {
 }
 
 impl Case {
-    // The last two objects are users. One principal, with the formula given. Method 0 asks for what the principal gives; method 1,
-    // all-of nothing, is met by the empty set.
+    // The last two objects are users. The formulas stand behind as many others as there may be, since op 9 looks through all that stand
+    // before it for those that read its slot. One principal, with the formula given. Method 0 asks for what the principal gives; method
+    // 1, all-of nothing, is met by the empty set.
     fn loaded(&self, formula: usize) -> Loaded {
         let mut b = Bundle::of(self.graph.objects);
+        let others = (LINES - self.lines.len()) as u8;
         for user in self.requestors() {
             b.line(0x02, &[user, 0, 1 << ROLE]);
         }
         for edge in &self.graph.edges {
             b.line(0x03, edge);
         }
+        for _ in 0..others {
+            b.line(0x04, &[0, 0, 0]);
+        }
         for line in &self.lines {
-            b.line(0x04, line);
+            b.line(0x04, &renumbered(*line, |n| n + others));
         }
         b.line(0x05, &[0, 0, 0, 0, 0, 0, 0, 1]);
-        b.line(0x07, &[formula as u8, 0]);
+        b.line(0x07, &[formula as u8 + others, 0]);
         b.line(0x0A, &[1, 0, 0, 0, 0, 0, 0, 0, 1]);
         b.line(0x0A, &[1, 0, 0, 0, 0, 0, 0, 0, 0]);
         Loaded::of(&b.ended())
@@ -312,14 +316,13 @@ impl Plain<'_> {
 
 // ---- one evaluation, measured
 
-// Milliseconds, net of the question whose formula has height 0. Of plain evaluations: the vertices kept, those of them in slots that
-// are read, and the steps if only these are asked by themselves.
+// Milliseconds, net of the question whose formula has height 0, of each round, rising; and the time of the first question. Of plain
+// evaluations: the vertices kept, those of them in slots that are read, and the steps if only these are asked by themselves.
 #[derive(Clone)]
 struct Measured {
     case: Case,
-    low: f64,
-    middle: f64,
-    high: f64,
+    first: f64,
+    rounds: Vec<f64>,
     counts: Counts,
 }
 
@@ -358,26 +361,43 @@ fn question(record: &mut Loaded, list: &[[u8; 8]], lists: usize) -> f64 {
     median(&times)
 }
 
-fn measured(case: &Case) -> Measured {
-    let (mut record, mut without) = (case.loaded(case.lines.len() - 1), case.loaded(0));
-    let (first, counts) = compared(case, &mut record);
-    let list: Vec<[u8; 8]> = case.requestors().repeat(10).into_iter().map(|r| case.asked(1, r)).collect();
-    // as many questions to a list, and as many lists to a round, as fit into 20 ms; at the least one question, by each in turn
-    let questions = if first > 10_000.0 {
-        1
-    } else if first > 1_000.0 {
-        2
-    } else {
-        list.len()
-    };
-    let lists = if questions == 1 { 1 } else { ((20_000.0 / first / questions as f64) as usize).clamp(1, 60) };
-    let mut times: Vec<f64> = (0..ROUNDS)
-        .map(|round| &list[if questions == 1 { round % 2 } else { 0 }..][..questions])
-        .map(|list_of_round| question(&mut record, list_of_round, lists) - question(&mut without, &list, 60))
-        .map(|microseconds| microseconds / 1_000.0)
-        .collect();
-    times.sort_by(f64::total_cmp);
-    Measured { case: case.clone(), low: times[0], middle: median(&times), high: times[ROUNDS - 1], counts }
+impl Measured {
+    // Compared with plain evaluations; not measured yet.
+    fn of(case: Case) -> Measured {
+        let (first, counts) = compared(&case, &mut case.loaded(case.lines.len() - 1));
+        Measured { case, first, rounds: vec![], counts }
+    }
+
+    // One round more.
+    fn measure(&mut self) {
+        let case = &self.case;
+        let (mut record, mut without) = (case.loaded(case.lines.len() - 1), case.loaded(0));
+        let list: Vec<[u8; 8]> = case.requestors().repeat(10).into_iter().map(|r| case.asked(1, r)).collect();
+        // as many lists as fit into 10 ms; of an evaluation that takes longer one question, by each requestor in turn
+        let own = if self.first > 10_000.0 { &list[self.rounds.len() % 2..][..1] } else { &list[..] };
+        let lists = ((10_000.0 / self.first / own.len() as f64) as usize).clamp(1, 60);
+        let net = question(&mut record, own, lists) - question(&mut without, &list, 60);
+        self.rounds.push(net / 1_000.0);
+        self.rounds.sort_by(f64::total_cmp);
+    }
+
+    fn lowest(&self) -> f64 {
+        self.rounds[0]
+    }
+}
+
+// All of them by turns, so that a time in which the machine is slower is shared.
+fn measure_by_turns<'a>(all: impl IntoIterator<Item = &'a mut Measured>) {
+    let mut all: Vec<&mut Measured> = all.into_iter().collect();
+    for _ in 0..ROUNDS {
+        all.iter_mut().for_each(|m| m.measure());
+    }
+}
+
+fn measured(case: Case) -> Measured {
+    let mut m = Measured::of(case);
+    measure_by_turns([&mut m]);
+    m
 }
 
 // ---- families of formulas
@@ -388,111 +408,113 @@ fn digits(ms: f64) -> String {
 }
 
 fn shown(m: &Measured) -> String {
-    format!("{} ({} to {})", digits(m.middle), digits(m.low), digits(m.high))
+    format!("{} ({} to {})", digits(median(&m.rounds)), digits(m.lowest()), digits(m.rounds[m.rounds.len() - 1]))
 }
 
-fn heading(leaves: &[&str]) {
-    println!("\n| graph, asked at | formula | height | kept | read | steps | {} |", leaves.join(" | "));
-    println!("|{}", "---|".repeat(6 + leaves.len()));
+// A formula at an object, with each of the leaves of its table at its end.
+struct Row {
+    place: String,
+    text: String,
+    cells: Vec<Measured>,
 }
 
-// A row of the table: the formula at an object, with each of the leaves at its end. The counts are those of the most steps.
-fn row(all: &mut Vec<Measured>, graph: &Graph, (place, at): (&str, u8), text: &str, leaves: &[&str]) {
+// The columns of times have these titles.
+struct Table {
+    titles: &'static [&'static str],
+    rows: Vec<Row>,
+}
+
+fn row(graph: &Graph, (place, at): (&str, u8), text: &str, leaves: &[&str]) -> Row {
     let case = |leaf: &&str| Case { graph: graph.clone(), lines: formula(&format!("{text} {leaf}")), at };
-    let these: Vec<Measured> = leaves.iter().map(|leaf| measured(&case(leaf))).collect();
-    let cells: Vec<String> = these.iter().map(shown).collect();
-    let most = these.iter().max_by_key(|m| (m.counts.steps, m.counts.read)).unwrap();
-    let (name, height, Counts { kept, read, steps }) = (&graph.name, height(&most.case.lines), most.counts);
-    println!("| {name}, {place} | {text} | {height} | {kept} | {read} | {steps} | {} |", cells.join(" | "));
-    all.extend(these);
+    let cells = leaves.iter().map(|leaf| Measured::of(case(leaf))).collect();
+    Row { place: format!("{}, {place}", graph.name), text: text.to_string(), cells }
+}
+
+// The counts of a row are those of the most steps.
+fn print(Table { titles, rows }: &Table) {
+    println!("\n| graph, asked at | formula | height | kept | read | steps | {} |", titles.join(" | "));
+    println!("|{}", "---|".repeat(6 + titles.len()));
+    for Row { place, text, cells } in rows {
+        let most = cells.iter().max_by_key(|m| (m.counts.steps, m.counts.read)).unwrap();
+        let (height, Counts { kept, read, steps }) = (height(&most.case.lines), most.counts);
+        let times = cells.iter().map(shown).collect::<Vec<String>>().join(" | ");
+        println!("| {place} | {text} | {height} | {kept} | {read} | {steps} | {times} |");
+    }
 }
 
 // Chains of steps and op 9 up to the highest, above three leaves.
-fn by_height(all: &mut Vec<Measured>, graph: &Graph, places: &[(&str, u8)]) {
-    heading(&["3 (true nowhere)", "10.0", "0 (true)"]);
+fn by_height(graph: &Graph, places: &[(&str, u8)]) -> Table {
+    let mut rows = vec![];
     for place in places {
-        for ops in [["7", "9.0", "7", "9.1", "7", "9.2", "7", "9.3"], ["9.0", "7", "9.1", "7", "9.2", "7", "9.3", "7"]]
-        {
-            for h in 2..=HIGHEST {
-                row(all, graph, *place, &ops[..h].join(" "), &["3", "10.0", "0"]);
-            }
+        for ops in [["7", "9.0", "7", "9.1", "7"], ["9.0", "7", "9.1", "7", "9.2"]] {
+            rows.extend((2..=HIGHEST).map(|h| row(graph, *place, &ops[..h].join(" "), &["3", "10.0", "0"])));
         }
     }
+    Table { titles: &["3 (true nowhere)", "10.0", "0 (true)"], rows }
 }
 
-// Out and back by turns: one level more in each place.
-fn by_place(all: &mut Vec<Measured>) {
-    let graph = middles(2, 253);
-    heading(&["ms"]);
-    for text in [
-        "7 9.0 8 9.1 7 9.2 8 10.0",
-        "7 9.0 8 9.1 7 9.2 6 8 10.0",
-        "7 9.0 8 9.1 7 9.2 5 8 10.0",
-        "7 9.0 8 9.1 6 7 9.2 8 10.0",
-        "7 9.0 6 8 9.1 7 9.2 8 10.0",
-        "6 7 9.0 8 9.1 7 9.2 8 10.0",
-        "7 9.0 8 9.1 7 9.2 8 9.3 10.0",
-        "7 9.0 8 9.1 7 9.2 8 4 10.0",
-        "7 9.0 8 9.1 7 9.2 4 8 10.0",
-        "7 9.0 8 9.1 7 9.2 8 11.0 10.0",
-        "7 9.0 8 9.1 7 9.2 11.0 8 10.0",
-        "7 9.0 8 9.1 7 9.2 11.0 8 10.2",
-        "7 9.0 8 9.1 7 9.2 11.1 7 10.0",
-    ] {
-        row(all, &graph, ("a middle", 0), text, &[""]);
-    }
-    for text in [
-        "8 9.0 7 9.1 8 9.2 7 10.0",
-        "6 8 9.0 7 9.1 8 9.2 7 10.0",
-        "8 9.0 7 9.1 8 9.2 7 9.3 10.0",
-        "8 7 9.0 8 9.1 7 9.2 8 10.0",
-    ] {
-        row(all, &graph, ("a point", 2), text, &[""]);
-    }
-}
-
-// Two steps lead back to all that one step led to. The most vertices kept, and the most steps; what is below reads one slot.
-const ONE_READ: [&str; 4] =
-    ["7 9.0 O 7 9.1 O 7 9.2 10.0", "7 9.0 O 7 9.1 O 7 9.2 10.2", "6 6 7 9.0 O 7 9.1 O 10.0", "6 6 7 9.0 O 7 O 7 10.0"];
-
-// What is below reads every slot that was set, so that every vertex is asked by itself.
-const ALL_READ: [&str; 14] = [
-    "7 9.0 O 9.1 7 9.2 6(O 10.0, 6(10.1, 10.2))",
-    "7 9.0 O 9.1 7 9.2 5(6(10.0, 10.1), 10.2)",
-    "7 9.0 O 7 9.1 6(O 7 10.0, O 7 10.1)",
-    "7 9.0 O 7 9.1 6(O 7 10.0, 11.0 O 10.1)",
-    "7 9.0 O 7 9.1 11.0 O 7 10.1",
-    "7 9.0 O 7 9.1 O 6(7 10.0, 7 10.1)",
-    "7 9.0 O 7 9.1 O 7 6(10.0, 10.1)",
-    "7 9.0 O 7 9.1 6 6(O 10.0, O 10.1)",
-    "6 7 9.0 O 7 9.1 O 6(10.0, 10.1)",
-    "9.0 7 9.1 11.0 7 9.2 6(O 10.1, O 10.2)",
-    "7 9.0 O 7 9.1 6(O 10.0, O 10.1)",
-    "7 9.0 O 7 9.1 6(10.0, 10.1)",
-    "7 9.0 6 O 7 10.0",
+// What is below reads one slot: out, kept, back and out again, with one level more in each place. O is the step back to a middle; it and
+// the step out lead to all that the first step led to.
+const ONE_READ: [&str; 22] = [
+    "7 9.0 O 10.0",
     "7 9.0 O 7 10.0",
+    "7 9.0 O 7 O 10.0",
+    "7 9.0 O 7 6 10.0",
+    "7 9.0 O 6 7 10.0",
+    "7 9.0 6 O 7 10.0",
+    "7 6 9.0 O 7 10.0",
+    "6 7 9.0 O 7 10.0",
+    "7 9.0 O 5 7 10.0",
+    "7 9.0 5 O 7 10.0",
+    "7 9.0 O 7 4 10.0",
+    "7 9.0 O 4 7 10.0",
+    "7 9.0 O 7 9.1 10.0",
+    "7 9.0 O 7 9.1 10.1",
+    "7 9.0 O 9.1 7 10.0",
+    "7 9.0 O 9.1 9.2 10.0",
+    "7 9.0 O 6 9.1 10.0",
+    "7 9.0 6 O 9.1 10.0",
+    "7 9.0 O 7 11.0 10.0",
+    "7 9.0 11.0 O 7 10.0",
+    "7 9.0 6 6 O 10.0",
+    "7 9.0 6(O 7 10.0, 11.0 O 10.0)",
 ];
 
-// O is the step back to a middle: 7 where there are edges back, else 8.
-fn by_reading(all: &mut Vec<Measured>) {
-    heading(&["ms"]);
+// What is below reads both slots that were set, so that every vertex is asked by itself.
+const BOTH_READ: [&str; 9] = [
+    "7 9.0 O 9.1 6(10.0, 10.1)",
+    "7 9.0 O 9.1 5(10.0, 10.1)",
+    "7 9.0 O 9.1 11.0 10.1",
+    "7 9.0 9.1 O 6(10.0, 10.1)",
+    "7 9.0 6(O 9.1 10.1, O 10.0)",
+    "9.0 7 9.1 O 6(10.0, 10.1)",
+    "9.0 7 9.1 6(O 10.0, O 10.1)",
+    "9.0 7 9.1 11.0 7 10.1",
+    "9.0 7 9.1 6(10.0, 10.1)",
+];
+
+// O is 7 where there are edges back, else 8.
+fn by_reading() -> Table {
+    let mut rows = vec![];
     for (graph, back) in [(all_joined(22), "7"), (star(254), "7"), (middles(2, 253), "8")] {
-        for text in ONE_READ.iter().chain(&ALL_READ) {
-            row(all, &graph, ("object 0", 0), &text.replace('O', back), &[""]);
+        for text in ONE_READ.iter().chain(&BOTH_READ) {
+            rows.push(row(&graph, ("object 0", 0), &text.replace('O', back), &[""]));
         }
     }
-    row(all, &star(254), ("the middle", 0), "8 9.0 8 8 9.1 6(8 8 10.0, 8 8 10.1)", &[""]);
-    for text in ["7 7 9.0 7 7 9.1 6(7 10.0, 7 10.1)", "7 7 9.0 7 7 9.1 7 6(10.0, 10.1)"] {
-        row(all, &star(254), ("a point", 1), text, &[""]);
+    for text in ["8 9.0 8 8 8 10.0", "8 9.0 8 7 8 10.0"] {
+        rows.push(row(&star(254), ("the middle", 0), text, &[""]));
     }
-    for text in ["8 7 9.0 8 7 9.1 6(8 10.0, 8 10.1)", "8 7 9.0 8 7 9.1 8 6(10.0, 10.1)"] {
-        row(all, &middles(2, 253), ("a point", 2), text, &[""]);
+    rows.push(row(&star(254), ("a point", 1), "7 7 9.0 7 7 10.0", &[""]));
+    rows.push(row(&middles(2, 253), ("a point", 2), "8 7 9.0 8 7 10.0", &[""]));
+    for text in ["8 9.0 7 8 7 10.0", "8 9.0 5 7 8 10.0"] {
+        rows.push(row(&middles(253, 2), ("a point", 253), text, &[""]));
     }
     for (a, b) in [(1, 254), (3, 170), (4, 128), (8, 64), (16, 32), (22, 23)] {
-        for text in [ALL_READ[0], ALL_READ[2]] {
-            row(all, &middles(a, b), ("a middle", 0), &text.replace('O', "8"), &[""]);
+        for text in [ONE_READ[2], ONE_READ[9], BOTH_READ[0]] {
+            rows.push(row(&middles(a, b), ("a middle", 0), &text.replace('O', "8"), &[""]));
         }
     }
+    Table { titles: &["ms"], rows }
 }
 
 // ---- cases drawn at random, and changes
@@ -501,7 +523,7 @@ const DRAWN: usize = 300;
 const STARTS: usize = 4;
 
 fn some_graph(g: &mut Random) -> Graph {
-    match g.below(9) {
+    match g.below(10) {
         0 => all_joined(22),
         1 => star(254),
         2 => middles(1, 254),
@@ -509,6 +531,7 @@ fn some_graph(g: &mut Random) -> Graph {
         4 => middles(3, 170),
         5 => middles(4, 128),
         6 => middles(16, 32),
+        7 => middles(253, 2),
         _ => scattered(g),
     }
 }
@@ -651,19 +674,21 @@ fn quick(case: &Case, questions: usize) -> f64 {
 
 // Small changes are kept where the evaluation gets no faster.
 fn climbed(g: &mut Random, from: Case, limit: Duration) -> (usize, Case) {
-    let (mut best, mut tried) = (from, 0);
-    let mut time = quick(&best, 3);
+    let (mut best, mut time, mut tried) = (from, 0.0, 0);
     let start = Instant::now();
     while start.elapsed() < limit {
         let next = changed(g, &best);
         if next == best || next.lines.len() > LINES || height(&next.lines) > HIGHEST {
             continue;
         }
+        if tried % 64 == 0 {
+            time = quick(&best, 15);
+        }
         tried += 1;
-        let new = quick(&next, 1);
+        let new = quick(&next, 3);
         if new >= time {
             // both again, side by side: the first may have been disturbed
-            let (old, new) = (quick(&best, 3), quick(&next, 3));
+            let (old, new) = (quick(&best, 15), quick(&next, 15));
             time = old;
             if new >= old {
                 (best, time) = (next, new);
@@ -673,12 +698,13 @@ fn climbed(g: &mut Random, from: Case, limit: Duration) -> (usize, Case) {
     (tried, best)
 }
 
-// Of the three that took longest, measured again: one may have been disturbed.
+// Of the ten that took longest, measured again by turns, the one whose lowest round is the highest: any round may have been disturbed.
 fn slowest(all: &[Measured]) -> Measured {
     let mut those: Vec<&Measured> = all.iter().collect();
-    those.sort_by(|a, b| b.middle.total_cmp(&a.middle));
-    let again = those.iter().take(3).map(|m| measured(&m.case));
-    again.max_by(|a, b| a.middle.total_cmp(&b.middle)).unwrap()
+    those.sort_by(|a, b| b.lowest().total_cmp(&a.lowest()));
+    let mut again: Vec<Measured> = those.iter().take(10).map(|m| Measured::of(m.case.clone())).collect();
+    measure_by_turns(&mut again);
+    again.into_iter().max_by(|a, b| a.lowest().total_cmp(&b.lowest())).unwrap()
 }
 
 fn described(m: &Measured) -> String {
@@ -691,38 +717,39 @@ fn described(m: &Measured) -> String {
 }
 
 // Half of the time from cases drawn at random, the other half from the slowest of all.
-fn climbs(all: &mut Vec<Measured>, climb: Duration) {
+fn climbs(mut all: Vec<Measured>, climb: Duration) {
     let mut g = Random(SEED);
-    let worst = slowest(all);
-    println!("\nThe slowest of these: {}.", described(&worst));
+    println!("\nThe slowest of these: {}.", described(&slowest(&all)));
     println!("\nClimbing: changes of lines, edges or the object that make the evaluation no faster are kept.");
     println!("{} seconds, seed {SEED}. Milliseconds:\n", climb.as_secs());
     for _ in 0..STARTS {
-        let drawn: Vec<(f64, Case)> = (0..DRAWN).map(|_| some_case(&mut g)).map(|c| (quick(&c, 1), c)).collect();
+        let drawn: Vec<(f64, Case)> = (0..DRAWN).map(|_| some_case(&mut g)).map(|c| (quick(&c, 3), c)).collect();
         let (before, from) = drawn.into_iter().max_by(|a, b| a.0.total_cmp(&b.0)).unwrap();
         let (tried, top) = climbed(&mut g, from, climb / 2 / STARTS as u32);
-        all.push(measured(&top));
-        let after = digits(all[all.len() - 1].middle);
-        println!(
-            "From the slowest of {DRAWN} drawn at random, {}: {after} after {tried} changes tried.",
-            digits(before)
-        );
+        let top = measured(top);
+        println!("From the slowest of {DRAWN} drawn at random, {}: after {tried} changes tried,", digits(before));
+        println!("  {}.", described(&top));
+        all.push(top);
     }
-    let (tried, top) = climbed(&mut g, slowest(all).case, climb / 2);
-    all.push(measured(&top));
-    println!("From the slowest of all: {} after {tried} changes tried.", digits(all[all.len() - 1].middle));
-    println!("\nThe slowest found: {}.", described(&slowest(all)));
+    let (tried, top) = climbed(&mut g, slowest(&all).case, climb / 2);
+    let top = measured(top);
+    println!("From the slowest of all: after {tried} changes tried,\n  {}.", described(&top));
+    all.push(top);
+    println!("\nThe slowest found: {}.", described(&slowest(&all)));
 }
 
 pub fn formulas(climb: Duration) {
     println!("\nEvaluation with kept vertices. Formulas from the outside in, `op.a`; 5 and 6 of one formula are of it twice.");
     println!("Kept: how many vertices op 9 keeps, each by itself. Read: how many of them in a slot that something below reads.");
     println!("Steps: how many steps, each from a set of vertices, if only these are asked by themselves.");
-    println!("Milliseconds, net of the question of height 0: median of {ROUNDS} rounds (lowest to highest).");
-    let mut all = vec![];
-    by_height(&mut all, &all_joined(22), &[("any", 0)]);
-    by_height(&mut all, &star(254), &[("the middle", 0), ("a point", 1)]);
-    by_place(&mut all);
-    by_reading(&mut all);
-    climbs(&mut all, climb);
+    println!("Each formula stands at the end of {LINES}, of which the first are not used.");
+    println!("Milliseconds, net of the question of height 0: median of {ROUNDS} rounds (lowest to highest), which all take by turns.");
+    let mut tables = [
+        by_height(&all_joined(22), &[("any", 0)]),
+        by_height(&star(254), &[("the middle", 0), ("a point", 1)]),
+        by_reading(),
+    ];
+    measure_by_turns(tables.iter_mut().flat_map(|t| &mut t.rows).flat_map(|r| &mut r.cells));
+    tables.iter().for_each(print);
+    climbs(tables.into_iter().flat_map(|t| t.rows).flat_map(|r| r.cells).collect(), climb);
 }

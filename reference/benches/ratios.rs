@@ -80,9 +80,7 @@ fn main() {
     section("loading and writing", bundles::workloads, &mut longest);
     let crown = section("crown: questions", questions::crown, &mut longest);
     section("full policy", questions::full, &mut longest);
-    if is_wanted(tower::TITLE) {
-        tower::section(&mut longest);
-    }
+    section(tower::TITLE, tower::workloads, &mut longest);
     section(labels::EVEN, labels::even, &mut longest);
     section(labels::STEP, labels::steps, &mut longest);
     let covers = is_wanted(cover::TITLE).then(|| cover::workloads(&mut longest));

@@ -5,9 +5,13 @@ use crate::policy::{Formula, Policy};
 /// The vertex that each slot holds; none for an "unset slot". "In all three, a is 0 to 3."
 type Slots = [Option<u8>; 4];
 
+/// Request 2026-05: "The highest formula in service has height 5. Make that the limit in place of 8.
+/// Height 6 is out of range, in a bundle and in a record handed in."
+const HIGHEST: u8 = 5;
+
 impl Policy {
     /// "An op is now out of range above 11"; "Formula numbers used are below the line's own";
-    /// "Unused a or b is 0; anything else there is out of range"; height "at most 8".
+    /// "Unused a or b is 0; anything else there is out of range"; the height is at most `HIGHEST`.
     ///
     /// Request 2026-03, of 9 to 11: "In all three, a is 0 to 3. In 9 and 11, b is a lower formula
     /// number"; op 10 "with b = 0".
@@ -25,7 +29,7 @@ impl Policy {
             10 => a <= 3 && b == 0,
             _ => false,
         };
-        fits && self.height(formula) <= 8
+        fits && self.height(formula) <= HIGHEST
     }
 
     /// "Height: 0 for ops 0 to 3, else one more than its highest child"; "In 9 and 11, ... the

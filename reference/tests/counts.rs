@@ -21,6 +21,8 @@ mod faults;
 mod formulas;
 #[path = "differential/frame.rs"]
 mod frame;
+#[path = "differential/heights.rs"]
+mod heights;
 #[path = "differential/lent.rs"]
 mod lent;
 #[path = "differential/limits.rs"]
@@ -46,8 +48,12 @@ mod shapes;
 #[path = "differential/sizes.rs"]
 mod sizes;
 mod support;
+#[path = "differential/table.rs"]
+mod table;
 #[path = "differential/tally.rs"]
 mod tally;
+#[path = "differential/tally_height.rs"]
+mod tally_height;
 #[path = "differential/tally_lent.rs"]
 mod tally_lent;
 #[path = "differential/tally_naming.rs"]

@@ -8,7 +8,8 @@
 //!
 //! Each case depends on the seed and its number only. A difference is printed with its seed, its
 //! bundle, its calls and both results, and fails the test. So does a refusal that occurred too
-//! seldom, or an answer that depends on a slot, or a limit that no bundle reached.
+//! seldom, or an answer that depends on a slot, or a formula at the limit of height or one above it,
+//! or a limit that no bundle reached.
 
 #[cfg(not(engine))]
 compile_error!("../target/staticlib/libcapi.a is missing: `rt staticlib capi` makes it");
@@ -29,6 +30,8 @@ mod faults;
 mod formulas;
 #[path = "differential/frame.rs"]
 mod frame;
+#[path = "differential/heights.rs"]
+mod heights;
 #[path = "differential/lent.rs"]
 mod lent;
 #[path = "differential/limits.rs"]
@@ -54,8 +57,12 @@ mod shapes;
 #[path = "differential/sizes.rs"]
 mod sizes;
 mod support;
+#[path = "differential/table.rs"]
+mod table;
 #[path = "differential/tally.rs"]
 mod tally;
+#[path = "differential/tally_height.rs"]
+mod tally_height;
 #[path = "differential/tally_lent.rs"]
 mod tally_lent;
 #[path = "differential/tally_naming.rs"]

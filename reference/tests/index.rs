@@ -24,10 +24,12 @@ mod calls;
 #[allow(dead_code)]
 #[path = "differential/engine.rs"]
 mod engine;
+#[allow(dead_code)]
 #[path = "index/fields.rs"]
 mod fields;
 #[path = "differential/formulas.rs"]
 mod formulas;
+#[allow(dead_code)]
 #[path = "index/pair.rs"]
 mod pair;
 #[path = "differential/policy.rs"]

@@ -28,7 +28,7 @@ mod support;
 mod tables;
 
 use reference::{Answer, Policy};
-use support::{bundle, implant_formulas, implant_lines, refused, weights};
+use support::{bundle, implant_formulas, implant_lines, refused, weights, HIGHEST};
 
 const TRUE: [u8; 3] = [0, 0, 0];
 const IS_REQUESTOR: [u8; 3] = [1, 0, 0];
@@ -92,12 +92,14 @@ fn way(outer: &[(u8, u8)], innermost: [u8; 3]) -> Vec<[u8; 3]> {
 #[test]
 fn op_9_keeps_here_and_op_10_is_true_when_the_slot_holds_here() {
     for (slot, step) in [(0, ON), (1, BACK), (2, BACK), (3, ON)] {
-        for steps in 0..=7 {
+        for steps in 0..usize::from(HIGHEST) {
             let outer = [vec![(9, slot)], vec![step; steps]].concat();
             assert_eq!(holds(&way(&outer, [10, slot, 0])), steps % 3 == 0);
         }
-        let there_and_back = [(9, slot), ON, BACK];
-        assert!(holds(&way(&there_and_back, [10, slot, 0])));
+        let there_and_back_twice = [(9, slot), ON, BACK, ON, BACK];
+        for outer in [&there_and_back_twice[..3], &there_and_back_twice] {
+            assert!(holds(&way(outer, [10, slot, 0])));
+        }
     }
 }
 
@@ -122,9 +124,12 @@ fn op_11_evaluates_b_at_the_vertex_in_the_slot() {
 fn the_slots_stay_while_op_11_evaluates_b() {
     assert!(holds(&way(&[(9, 0), ON, (11, 0)], [10, 0, 0])));
     assert!(!holds(&way(&[(9, 0), ON, (11, 0), ON], [10, 0, 0])));
-    assert!(holds(&way(&[(9, 0), ON, (9, 1), (11, 0), ON], [10, 1, 0])));
-    let there_and_back = [(9, 0), ON, (9, 1), (11, 0), BACK, (11, 1)];
-    assert!(holds(&way(&there_and_back, IS_REQUESTOR)));
+    let at_outer = [(9, 0), ON, (9, 1), (11, 0)];
+    let with = |last| [&at_outer[..], &[last]].concat();
+    assert!(holds(&way(&with(ON), [10, 1, 0])));
+    assert!(!holds(&way(&with(BACK), [10, 1, 0])));
+    assert!(!holds(&way(&at_outer, IS_REQUESTOR)));
+    assert!(holds(&way(&with((11, 1)), IS_REQUESTOR)));
 }
 
 #[test]
@@ -180,10 +185,12 @@ fn an_inner_op_9_on_the_same_slot_hides_the_outer() {
     )));
     assert!(!holds(&way(&[(9, 0), ON, (9, 0), ON, (11, 0)], IS_OBJECT)));
     assert!(holds(&way(&[(9, 0), ON, (9, 1), ON, (11, 0)], IS_OBJECT)));
-    let thrice = [(9, 2), ON, (9, 2), ON, (9, 2), ON, (11, 2)];
+    let third_on = |slot: u8| [(9, 2), ON, (9, 2), ON, (9, slot)];
+    assert!(holds(&way(&third_on(2), [10, 2, 0])));
+    assert!(!holds(&way(&third_on(1), [10, 2, 0])));
+    let thrice = [(9, 2), (9, 2), ON, (9, 2), (11, 2)];
     assert!(!holds(&way(&thrice, IS_OBJECT)));
-    assert!(!holds(&way(&thrice, IS_REQUESTOR)));
-    assert!(holds(&way(&thrice, TRUE)));
+    assert!(holds(&way(&thrice, IS_REQUESTOR)));
 }
 
 #[test]
@@ -202,9 +209,10 @@ fn when_the_inner_op_9_ends_the_outer_is_back() {
 fn the_slots_are_independent() {
     let pairs = (0..4).flat_map(|x| (0..4).map(move |y| (x, y)));
     for (x, y) in pairs.filter(|(x, y)| x != y) {
-        let two_kept = [(9, x), ON, (9, y), ON, ON];
+        let two_kept = [(9, x), ON, (9, y), ON];
         for slot in 0..4 {
-            assert_eq!(holds(&way(&two_kept, [10, slot, 0])), slot == x);
+            let around = [&two_kept[..], &[ON]].concat();
+            assert_eq!(holds(&way(&around, [10, slot, 0])), slot == x);
             let jump = [&two_kept[..], &[(11, slot)]].concat();
             assert_eq!(holds(&way(&jump, IS_OBJECT)), slot == x);
             assert_eq!(holds(&way(&jump, IS_REQUESTOR)), slot == y);
@@ -258,24 +266,37 @@ const SCAN: u8 = 1;
 const ANA: u8 = 2;
 const BEN: u8 = 3;
 
-/// Who prescribed the crown and who the scan, in every way, and whether somebody prescribed both.
-fn prescribers() -> Vec<(&'static [u8], &'static [u8], bool)> {
+/// Who did one thing and who another, such as prescribing crown and scan, in every way, and whether
+/// somebody did both.
+fn doers() -> Vec<(&'static [u8], &'static [u8], bool)> {
     let people: [&[u8]; 4] = [&[], &[ANA], &[BEN], &[ANA, BEN]];
-    let both = |crown: &[u8], scan: &[u8]| crown.iter().any(|person| scan.contains(person));
-    let with = |crown| people.map(|scan| (crown, scan, both(crown, scan)));
+    let both = |one: &[u8], other: &[u8]| one.iter().any(|person| other.contains(person));
+    let with = |one| people.map(|other| (one, other, both(one, other)));
     people.map(with).concat()
 }
 
 /// The request's example with these prescribers of crown and scan.
 fn implant(crown: &[u8], scan: &[u8]) -> Vec<Vec<u8>> {
-    let mut lines = implant_lines();
-    lines.retain(|line| line[..2] != [3, 0]);
     let by = |work: u8| move |&person: &u8| vec![3, 0, work, person];
     let crown = crown.iter().map(by(CROWN));
-    let edges: Vec<Vec<u8>> = crown.chain(scan.iter().map(by(SCAN))).collect();
-    let place = lines.partition_point(|line| line[0] <= 2);
-    lines.splice(place..place, edges);
+    let mut lines = implant_lines();
+    put_edges(&mut lines, 0, crown.chain(scan.iter().map(by(SCAN))));
     lines
+}
+
+/// The example with these prescribers and designers of the crown.
+fn designed(prescribers: &[u8], designers: &[u8]) -> Vec<Vec<u8>> {
+    let mut lines = implant(prescribers, &[]);
+    let by = designers.iter().map(|&person| vec![3, 2, CROWN, person]);
+    put_edges(&mut lines, 2, by);
+    lines
+}
+
+/// Puts the edges of a label, rising, in the place of those that are there.
+fn put_edges(lines: &mut Vec<Vec<u8>>, label: u8, edges: impl Iterator<Item = Vec<u8>>) {
+    lines.retain(|line| line[..2] != [3, label]);
+    let place = lines.partition_point(|line| line[..2] < [3, label][..]);
+    lines.splice(place..place, edges);
 }
 
 /// All calls grant a set of principals for a method on the crown, or no one is enabled.
@@ -296,11 +317,19 @@ fn assert_decided(record: &Policy, method: u8, set: u32, granted: bool) {
 
 #[test]
 fn the_prescriber_of_this_crown_also_prescribed_the_implant_scan() {
-    for (crown, scan, both) in prescribers() {
+    for (crown, scan, both) in doers() {
         let record = loaded(&implant(crown, scan));
         assert_decided(&record, 0, 0b01, both);
         assert_decided(&record, 1, 0b10, both);
         assert_decided(&record, 2, 0b11, both);
+    }
+}
+
+#[test]
+fn the_prescriber_of_this_crown_also_designed_it() {
+    for (prescribers, designers, both) in doers() {
+        let record = loaded(&designed(prescribers, designers));
+        assert_decided(&record, 3, 0b100, both);
     }
 }
 
@@ -309,13 +338,18 @@ fn the_prescriber_of_this_crown_also_prescribed_the_implant_scan() {
 #[test]
 fn the_example_agrees_with_ops_0_to_8() {
     let count = implant_formulas().len() as u8;
-    let formulas = [[4, 8, 1, 3], [4, 8, 0, count], [4, 7, 0, count + 1]];
-    for (crown, scan, both) in prescribers() {
+    let formulas = [
+        [4, 2, 0, 0],
+        [4, 8, 1, count],
+        [4, 8, 0, count + 1],
+        [4, 7, 0, count + 2],
+    ];
+    for (crown, scan, both) in doers() {
         let mut lines = implant(crown, scan);
         let place = lines.partition_point(|line| line[0] <= 4);
         lines.splice(place..place, formulas.map(Vec::from));
         let principal = lines.partition_point(|line| line[0] < 7);
-        lines[principal][1] = count + 2;
+        lines[principal][1] = count + 3;
         let record = loaded(&lines);
         assert_decided(&record, 0, 0b01, both);
         assert_decided(&record, 2, 0b11, both);
@@ -334,6 +368,13 @@ fn an_edit_changes_the_examples_answer() {
     assert_decided(&record, 2, 0b11, true);
     assert_eq!(record.remove_edge(1, CROWN, SCAN), 0);
     assert_decided(&record, 2, 0b11, false);
+    assert_eq!(record.add_edge(1, SCAN, SCAN), 0);
+    assert_decided(&record, 2, 0b11, false);
+    assert_decided(&record, 3, 0b100, true);
+    assert_eq!(record.remove_edge(0, CROWN, ANA), 0);
+    assert_decided(&record, 3, 0b100, false);
+    assert_eq!(record.add_edge(2, CROWN, BEN), 0);
+    assert_decided(&record, 3, 0b100, true);
 }
 
 #[test]

@@ -2,8 +2,9 @@
 
 mod support;
 
+use support::high_part::HIGH_PARTS;
 use support::{
-    bundle, crown, crown_lines, end, many_edges, open, refused, seal, weights, SMALLEST,
+    bundle, crown, crown_lines, end, many_edges, open, refused, seal, weights, HIGHEST, SMALLEST,
 };
 
 /// A head of 3 objects, then the given lines, then the end line.
@@ -188,42 +189,47 @@ fn number_6_ops_9_and_11_name_a_lower_formula() {
     }
 }
 
-#[test]
-fn number_6_height() {
-    for op in [4, 5, 6, 7, 8, 9, 11] {
-        let step = |n: u8| match op {
-            4 => vec![4, 4, n, 0],
-            5 | 6 => vec![4, op, 0, n],
-            7 | 8 => vec![4, op, 15, n],
-            _ => vec![4, op, n % 4, n],
-        };
-        let leaf = if op < 9 { 0 } else { 10 };
-        let mut lines = vec![vec![1, 1, 1], vec![4, leaf, 0, 0]];
-        lines.extend((0..8).map(step));
-        assert_eq!(refused(&bundle(&lines)), (0, 0));
-        lines.push(step(8));
-        assert_eq!(refused(&bundle(&lines)), (6, 11));
-    }
+/// A formula line.
+fn formula_line([op, a, b]: [u8; 3]) -> Vec<u8> {
+    vec![4, op, a, b]
 }
 
 #[test]
+fn number_6_height() {
+    for part in HIGH_PARTS {
+        let story = |number: u8| {
+            let other = match part.op {
+                7 | 8 => 15,
+                9 | 11 => number % 4,
+                _ => 0,
+            };
+            formula_line(part.over(number, other))
+        };
+        let leaf = if part.op < 9 { 0 } else { 10 };
+        let mut lines = vec![vec![1, 1, 1], vec![4, leaf, 0, 0]];
+        lines.extend((0..HIGHEST).map(story));
+        assert_eq!(refused(&bundle(&lines)), (0, 0), "{}", part.name);
+        lines.push(story(HIGHEST));
+        assert_eq!(refused(&bundle(&lines)), (6, lines.len()), "{}", part.name);
+    }
+}
+
+/// Formula n has height n, the ops being mixed; then comes one over the highest of them, or over the
+/// one below it, by every op with a part.
+#[test]
 fn number_6_height_of_a_mixed_tower() {
     let mut lines = vec![vec![1, 1, 1], vec![4, 10, 3, 0]];
-    let above = [
-        [9, 0],
-        [7, 0],
-        [11, 0],
-        [8, 1],
-        [9, 0],
-        [9, 1],
-        [11, 3],
-        [7, 15],
-    ];
-    lines.extend((0..).zip(above).map(|(n, [op, a])| vec![4, op, a, n]));
+    let above = [[9, 0], [7, 0], [11, 3], [8, 15], [9, 1], [11, 0], [7, 1]];
+    let stories = (0..HIGHEST).zip(above.into_iter().cycle());
+    lines.extend(stories.map(|(n, [op, a])| vec![4, op, a, n]));
     assert_eq!(refused(&bundle(&lines)), (0, 0));
-    for line in [[4, 9, 0, 8], [4, 11, 0, 8], [4, 4, 8, 0], [4, 5, 0, 8]] {
-        let higher = [lines.clone(), vec![line.to_vec()]].concat();
-        assert_eq!(refused(&bundle(&higher)), (6, 11));
+    for part in HIGH_PARTS {
+        let with = |number: u8| {
+            let line = formula_line(part.over(number, 0));
+            refused(&bundle(&[&lines[..], &[line]].concat()))
+        };
+        assert_eq!(with(HIGHEST - 1), (0, 0), "{}", part.name);
+        assert_eq!(with(HIGHEST), (6, lines.len() + 1), "{}", part.name);
     }
     lines.push(vec![4, 10, 0, 0]);
     assert_eq!(refused(&bundle(&lines)), (0, 0));

@@ -62,9 +62,9 @@ slotCount = 4
 abbrev pub privilegeCount : ℕ
 privilegeCount = 64
 
--- "Height: .. at most 8"
+-- request 2026-05: "The highest formula in service has height 5. Make that the limit in place of 8."
 abbrev pub greatestHeight : ℕ
-greatestHeight = 8
+greatestHeight = 5
 
 -- the lines of a bundle before its end line: the head, and as many of each kind as there may be
 abbrev pub mostLines : ℕ

@@ -92,7 +92,7 @@ pub const SLOT_COUNT: usize = 4;
 pub const PRIVILEGE_COUNT: usize = 64;
 
 // A formula's height.
-pub const GREATEST_HEIGHT: u8 = 8;
+pub const GREATEST_HEIGHT: u8 = 5;
 
 // The octets of a line of any kind that a bundle may have: the longest, a method's, has 12.
 pub const LINE_ROOM: usize = 16;

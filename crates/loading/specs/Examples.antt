@@ -1,5 +1,6 @@
--- Worked refusals of loading: number and line, one or more for each number 1 to 9, computed. Octets are hexadecimal.
-use Prim.Native.Nat.{ℕ}
+-- Worked refusals of loading: number and line, one or more for each number 1 to 9, and what is just not refused, computed. Octets are
+-- hexadecimal.
+use Prim.Native.Nat.{ℕ, _-_}
 use mathlib.Core.Path.{_≡_, refl}
 use mathlib.Core.List.{List, [], _∷_, _++_}
 use lib.ListN.{replicate}
@@ -41,6 +42,16 @@ user0 = 0x03 ∷ 0x02 ∷ 0x00 ∷ 0x00 ∷ 0x00 ∷ 0xFB ∷ []
 abbrev bare : List ℕ
 bare = 0x08 ∷ 0x05 ∷ 0x00 ∷ 0x00 ∷ 0x00 ∷ 0x00 ∷ 0x00 ∷ 0x00 ∷ 0x00 ∷ 0x00 ∷ 0xF3 ∷ []
 
+-- the formula "always", and the negation of formula n; then formula 5, five negations above the first: a height of 5
+abbrev always0 : List ℕ
+always0 = 0x03 ∷ 0x04 ∷ 0x00 ∷ 0x00 ∷ 0x00 ∷ 0xF9 ∷ []
+
+abbrev notOf : ℕ → List ℕ
+notOf n = 0x03 ∷ 0x04 ∷ 0x04 ∷ n ∷ 0x00 ∷ (0xF5 - n) ∷ []
+
+abbrev toHeight5 : List (List ℕ)
+toHeight5 = head1 ∷ always0 ∷ notOf 0 ∷ notOf 1 ∷ notOf 2 ∷ notOf 3 ∷ notOf 4 ∷ []
+
 pub record Worked : Type 0 where
   pub success : load smallest ≡ record { number = 0; line = 0; rules = blank }
   pub empty-line : numberAndLine (0x0A ∷ smallest) ≡ 1 ∷ 1 ∷ []
@@ -51,6 +62,8 @@ pub record Worked : Type 0 where
   pub after-end : numberAndLine (textOf (head1 ∷ end1 ∷ end1 ∷ [])) ≡ 4 ∷ 3 ∷ []
   pub one-over : numberAndLine (textOf (head1 ∷ replicate 21 bare)) ≡ 5 ∷ 22 ∷ []
   pub no-object-1 : numberAndLine (textOf (head1 ∷ (0x03 ∷ 0x02 ∷ 0x01 ∷ 0x00 ∷ 0x00 ∷ 0xFA ∷ []) ∷ end1 ∷ [])) ≡ 6 ∷ 2 ∷ []
+  pub height-5 : numberAndLine (textOf (toHeight5 ++ ((0x06 ∷ 0xFF ∷ 0x00 ∷ 0x07 ∷ 0x00 ∷ 0x00 ∷ 0x07 ∷ 0x00 ∷ 0xED ∷ []) ∷ []))) ≡ 0 ∷ 0 ∷ []
+  pub height-6 : numberAndLine (textOf (toHeight5 ++ (notOf 5 ∷ []))) ≡ 6 ∷ 8 ∷ []
   pub not-rising : numberAndLine (textOf (head1 ∷ user0 ∷ user0 ∷ end1 ∷ [])) ≡ 7 ∷ 3 ∷ []
   pub empty-file : numberAndLine [] ≡ 8 ∷ 1 ∷ []
   pub end-wrong : numberAndLine (textOf (head1 ∷ user0 ∷ end1 ∷ [])) ≡ 8 ∷ 3 ∷ []
@@ -74,6 +87,8 @@ worked =
       after-end = refl;
       one-over = refl;
       no-object-1 = refl;
+      height-5 = refl;
+      height-6 = refl;
       not-rising = refl;
       empty-file = refl;
       end-wrong = refl;

@@ -11,18 +11,13 @@ const ROUNDS: usize = 15;
 /// What was measured of a workload.
 pub struct Row {
     pub name: String,
+    /// The times of both, in microseconds.
     pub engine: Spread,
-    pub reference: Beside,
+    pub reference: Spread,
+    /// The rounds' ratios.
+    pub ratio: Spread,
     /// Whether it is loading or writing, which may take longer than the reference, within bounds.
     pub bytes: bool,
-}
-
-/// What stands beside the engine.
-pub enum Beside {
-    /// The reference's times and the rounds' ratios.
-    Measured { micros: Spread, ratio: Spread },
-    /// The reference's time by its growth, where it was not run.
-    Estimated(f64),
 }
 
 /// Both implementations in alternating rounds, each first in every other one.
@@ -42,23 +37,9 @@ pub fn row(workload: &Workload) -> Row {
     Row {
         name: workload.name.clone(),
         engine: figure(|both| both.0),
-        reference: Beside::Measured {
-            micros: figure(|both| both.1),
-            ratio: figure(|both| both.0 / both.1),
-        },
+        reference: figure(|both| both.1),
+        ratio: figure(|both| both.0 / both.1),
         bytes: !matches!(workload.task, Task::Answer(_)),
-    }
-}
-
-/// The engine alone, beside an estimate of the reference's time.
-pub fn engine_row(workload: &Workload, estimate: f64) -> Row {
-    let mut engine = Run::of(ENGINE, workload, times(workload).0);
-    let rounds = (0..ROUNDS).map(|_| engine.round()).collect();
-    Row {
-        name: workload.name.clone(),
-        engine: Spread::of(rounds),
-        reference: Beside::Estimated(estimate),
-        bytes: false,
     }
 }
 

@@ -21,7 +21,7 @@ pub fn workloads() -> Vec<Workload> {
 /// Each method by Ana, then by Ben, so that every call empties the memo, with the set that both are
 /// granted, for tickets.
 fn workload(kind: u8, name: &str) -> Workload {
-    let methods = [(0, 0b01), (1, 0b10), (2, 0b11)];
+    let methods = [(0, 0b001), (1, 0b010), (2, 0b011), (3, 0b100)];
     let both = |(method, set)| [ANA, BEN].map(|user| call([kind, method, 0, user], set));
     let cycle = methods.map(both).concat();
     Workload::calls(name, &support::implant_lines(), cycle)

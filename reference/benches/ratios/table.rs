@@ -1,7 +1,6 @@
 //! The table as it is printed.
 
-use crate::measure::{Beside, Row};
-use crate::spread::number;
+use crate::measure::Row;
 
 /// The widths of the columns but the last.
 const NAME: usize = 46;
@@ -36,32 +35,13 @@ pub fn title(text: &str) {
     }
 }
 
-/// A row that was measured or estimated.
+/// A row.
 pub fn print(row: &Row) {
     let name = format!("  {}", row.name);
-    let engine = row.engine.to_string();
-    match &row.reference {
-        Beside::Measured { micros, ratio } => {
-            let goal = goal(row.bytes, ratio.median);
-            line(
-                &name,
-                &engine,
-                &micros.to_string(),
-                &ratio.to_string(),
-                &goal,
-            );
-        }
-        Beside::Estimated(micros) => {
-            let ratio = row.engine.median / micros;
-            let (time, share) = (estimated(*micros), estimated(ratio));
-            line(&name, &engine, &time, &share, &goal(row.bytes, ratio));
-        }
-    }
-}
-
-/// A number that was not measured, marked as such.
-fn estimated(value: f64) -> String {
-    format!("{} (estimated)", number(value))
+    let [engine, reference, ratio] =
+        [row.engine, row.reference, row.ratio].map(|of| of.to_string());
+    let goal = goal(row.bytes, row.ratio.median);
+    line(&name, &engine, &reference, &ratio, &goal);
 }
 
 /// The goal of a row and whether its ratio keeps it.

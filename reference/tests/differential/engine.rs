@@ -64,8 +64,8 @@ pub fn index(record: &Record) -> Index {
 
 /// Loads a bundle into a lent record, as `reference::load` does.
 pub fn load(record: &mut Record, bundle: &[u8]) -> u64 {
-    // SAFETY: the record was zeroed once and then changed by the engine alone; the pointer comes
-    // with the length of the slice it is taken from.
+    // SAFETY: the record was zeroed once and then changed by the engine, or by a test in octets that
+    // are no truth values; the pointer comes with the length of the slice it is taken from.
     unsafe { access_load(record, bundle.as_ptr(), bundle.len()) }
 }
 

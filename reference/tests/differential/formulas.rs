@@ -3,6 +3,8 @@
 use crate::policy::Lines;
 use crate::random::Random;
 use crate::sizes::Sizes;
+use crate::support::high_part::{HighPart, HIGH_PARTS};
+use crate::support::HIGHEST;
 
 /// Above this many visits of an edge or formula, a formula is not taken up.
 const COSTLIEST: u64 = 20_000;
@@ -40,11 +42,13 @@ impl Formulas<'_> {
         }
     }
 
-    /// As many formula lines as asked, with a tower of height 8 first where it is asked for.
+    /// As many formula lines as asked, with a tower of the greatest height first where it is asked
+    /// for.
     pub fn lines(mut self, random: &mut Random, sizes: &Sizes) -> Lines {
+        let top = usize::from(HIGHEST);
         while self.lines.len() < sizes.formulas {
             let own = self.lines.len();
-            let in_tower = sizes.tower && (1..=8).contains(&own);
+            let in_tower = sizes.tower && (1..=top).contains(&own);
             if own > 0 && !in_tower && self.has_slots() && random.one_in(2) {
                 self.sentence(random);
                 continue;
@@ -52,6 +56,7 @@ impl Formulas<'_> {
             let formula = match own {
                 0 if sizes.top => [3, 15, 0],
                 0 => self.leaf(random, sizes),
+                _ if in_tower && own == top => self.over_last(random),
                 _ if in_tower => self.compound(random, own - 1),
                 _ if random.one_in(3) => self.leaf(random, sizes),
                 _ => {
@@ -104,30 +109,54 @@ impl Formulas<'_> {
         }
     }
 
+    /// The last formula as the high part of another, by every op that has a part; ops 9 and 11 only
+    /// with slots.
+    fn over_last(&self, random: &mut Random) -> [u8; 3] {
+        let last = self.lines.len() as u8 - 1;
+        let all = HIGH_PARTS.into_iter();
+        let usable: Vec<HighPart> = all.filter(|part| part.op < 9 || self.has_slots()).collect();
+        let part = random.pick(&usable);
+        let other = match part.op {
+            7 | 8 => random.pick(self.labels),
+            9 | 11 => random.pick(self.slots),
+            _ => 0,
+        };
+        part.over(last, other)
+    }
+
     /// Formulas that say together: a vertex is kept, and some steps on it is asked for. On the way
-    /// another one may be kept, around what follows or beside it.
+    /// another one may be kept, around what follows or beside it. What is inside leaves height for
+    /// the ops around it.
     fn sentence(&mut self, random: &mut Random) {
         let slot = random.pick(self.slots);
         let looked = self.look(random, slot);
-        let mut number = self.steps(random, looked);
+        let inside = match random.below(3) {
+            0 => self.inner_around(random, slot, looked),
+            1 => self.inner_beside(random, slot, looked),
+            _ => self.steps(random, looked, HIGHEST - 1),
+        };
+        let kept = self.add([9, slot, inside]);
+        self.steps(random, kept, HIGHEST);
+    }
+
+    /// Another vertex is kept around steps to a formula.
+    fn inner_around(&mut self, random: &mut Random, slot: u8, looked: u8) -> u8 {
+        let number = self.steps(random, looked, HIGHEST - 2);
         let inner_slot = self.near(random, slot);
-        match random.below(3) {
-            0 => {
-                let inner = self.add([9, inner_slot, number]);
-                number = self.steps(random, inner);
-            }
-            1 => {
-                let other = self.look(random, inner_slot);
-                let inner = self.add([9, inner_slot, other]);
-                let op = random.pick(&[5, 6]);
-                let pair = random.pick(&[[inner, number], [number, inner]]);
-                number = self.add([op, pair[0], pair[1]]);
-                number = self.steps(random, number);
-            }
-            _ => (),
-        }
-        let kept = self.add([9, slot, number]);
-        self.steps(random, kept);
+        let inner = self.add([9, inner_slot, number]);
+        self.steps(random, inner, HIGHEST - 1)
+    }
+
+    /// Another vertex is kept beside steps to a formula, and looked at in there.
+    fn inner_beside(&mut self, random: &mut Random, slot: u8, looked: u8) -> u8 {
+        let number = self.steps(random, looked, HIGHEST - 2);
+        let inner_slot = self.near(random, slot);
+        let other = self.look(random, inner_slot);
+        let inner = self.add([9, inner_slot, other]);
+        let op = random.pick(&[5, 6]);
+        let pair = random.pick(&[[inner, number], [number, inner]]);
+        let both = self.add([op, pair[0], pair[1]]);
+        self.steps(random, both, HIGHEST - 1)
     }
 
     /// A slot is looked at: whether it holds here, or what is true at its vertex; or the opposite.
@@ -152,10 +181,13 @@ impl Formulas<'_> {
         random.pick(&[slot, slot, any])
     }
 
-    /// None to two steps around a formula.
-    fn steps(&mut self, random: &mut Random, number: u8) -> u8 {
+    /// None to two steps around a formula, as long as the whole is at most so high.
+    fn steps(&mut self, random: &mut Random, number: u8, most: u8) -> u8 {
         let steps = random.pick(&[0, 1, 1, 2]);
         (0..steps).fold(number, |number, _| {
+            if self.heights[usize::from(number)] >= most {
+                return number;
+            }
             self.add([random.pick(&[7, 8]), random.pick(self.labels), number])
         })
     }
@@ -169,7 +201,7 @@ impl Formulas<'_> {
     /// Takes a formula up unless it is too high or too costly.
     fn take(&mut self, formula: [u8; 3]) -> bool {
         let (height, cost) = self.measures(formula);
-        let fits = height <= 8 && cost <= COSTLIEST;
+        let fits = height <= HIGHEST && cost <= COSTLIEST;
         if fits {
             self.heights.push(height);
             self.costs.push(cost);

@@ -3,6 +3,7 @@
 use crate::formulas::children;
 use crate::policy::Lines;
 use crate::sizes::LIMITS;
+use crate::support::HIGHEST;
 
 /// Whether each limit is reached; the last is whether all are (1 object aside).
 pub fn reached(lines: &Lines) -> [bool; LIMITS.len()] {
@@ -18,7 +19,7 @@ pub fn reached(lines: &Lines) -> [bool; LIMITS.len()] {
         count(2) == 255,
         count(3) == 512,
         count(4) == 64,
-        highest(lines) == 8,
+        highest(lines) == HIGHEST,
         count(5) == 20,
         count(6) == 190,
         count(7) == 20,

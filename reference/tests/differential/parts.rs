@@ -7,7 +7,7 @@ use crate::engine;
 use crate::lent::Lent;
 use crate::outcome::{Checked, Outcome};
 use crate::random::Random;
-use crate::support::{principal_count, Call, SMALLEST};
+use crate::support::{Call, SMALLEST};
 use crate::tally::Tally;
 use crate::tally_lent::Event;
 use crate::tally_tickets::Setting;
@@ -69,23 +69,15 @@ fn maybe_tickets_alone<'a>(calls: &'a [Call], random: &mut Random) -> &'a [Call]
     }
 }
 
-/// A lent record with so many principals, before any edit.
-fn on_lent(principal_count: usize) -> Setting {
-    Setting {
-        lent: true,
-        edited: false,
-        principal_count,
-    }
-}
-
 /// A record that is zero has no bundle: calls and writing are refused.
 fn never_loaded(calls: &[Call], random: &mut Random, tally: &mut Tally) -> Checked<()> {
     let mut lent = Lent::zeroed();
     let room = (5 * calls.len(), random.octet());
     let outcome = lent.answer(calls.as_flattened(), room)?;
+    let setting = Setting::before_edits(true, &[]);
     for (call, answer) in calls.iter().zip(outcome.buffer().chunks_exact(5)) {
         tally.unloadable(answer[0]);
-        tally.lent_answer(call, answer, on_lent(0), Noted::default());
+        tally.lent_answer(call, answer, setting, Noted::default());
     }
     let outcome = lent.write((random.below(60), random.octet()))?;
     tally.unloadable(outcome.number() as u8);
@@ -166,7 +158,7 @@ impl<'a> Walk<'a> {
             text,
             calls,
             answers: Vec::new(),
-            setting: on_lent(principal_count(text)),
+            setting: Setting::before_edits(true, text),
             watch: Watch::default(),
             again: None,
         }

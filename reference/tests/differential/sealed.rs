@@ -3,13 +3,15 @@
 
 use crate::policy::Lines;
 use crate::random::Random;
+use crate::support::high_part::HIGH_PARTS;
+use crate::support::HIGHEST;
 use std::collections::BTreeSet;
 
 /// A way of changing lines given as kind and body.
 type Change = fn(&mut Random, &mut Lines);
 
-/// Every way, by the name that a report gives it.
-const WAYS: [(&str, Change); 24] = [
+/// Every way but one, by the name that a report gives it.
+const WAYS: [(&str, Change); 22] = [
     ("a wrong head", wrong_head),
     ("a body number altered", body_number),
     ("a body number altered", body_number),
@@ -28,17 +30,21 @@ const WAYS: [(&str, Change); 24] = [
     ("an exclusion not p below q", falling_exclusion),
     ("a pair of one thing", pair_of_one),
     ("a formula of itself or a later one", formula_of_later),
-    ("height 8 or 9", tower),
     ("an unused a or b", unused_number),
     ("an op above 11", op_above_11),
-    ("height 8 or 9 by op 9 or 11", tower_with_slots),
     ("a slot above 3", slot_above_3),
     ("op 10 with a b", op_10_with_b),
 ];
 
+/// The one that is taken oftener, as every op that has a part is to be met there.
+const TOWER: (&str, Change) = ("the greatest height or one more", tower);
+
 /// Changes lines in a random way, and names the way.
 pub fn change(random: &mut Random, lines: &mut Lines) -> &'static str {
-    let (name, way) = random.pick(&WAYS);
+    let (name, way) = match random.one_in(5) {
+        true => TOWER,
+        false => random.pick(&WAYS),
+    };
     way(random, lines);
     name
 }
@@ -253,14 +259,22 @@ fn formula_of_later(random: &mut Random, lines: &mut Lines) {
     put_formula(lines, random.pick(&formulas));
 }
 
-/// A leaf and eight or nine formulas of which each has the one before as a child.
+/// A tower of the greatest height or, oftener, of one more; its highest formula is of any op that
+/// has a part.
 fn tower(random: &mut Random, lines: &mut Lines) {
-    let stories = random.between(8, 9);
-    build(random, lines, stories);
+    let height = random.pick(&[HIGHEST, HIGHEST + 1, HIGHEST + 1, HIGHEST + 1]);
+    build(random, lines, height - 1);
+    let before = count(lines, 4) as u8 - 1;
+    let part = random.pick(&HIGH_PARTS);
+    let other = match part.op {
+        4..=6 => 0,
+        _ => random.octet_between(0, 3),
+    };
+    put_formula(lines, part.over(before, other));
 }
 
 /// A leaf and so many formulas of which each has the one before as a child.
-fn build(random: &mut Random, lines: &mut Lines, stories: usize) {
+fn build(random: &mut Random, lines: &mut Lines, stories: u8) {
     let op = random.pick(&[0, 1, 2, 3, 10]);
     put_formula(lines, [op, 0, 0]);
     for _ in 0..stories {
@@ -277,15 +291,6 @@ fn build(random: &mut Random, lines: &mut Lines, stories: usize) {
         ];
         put_formula(lines, random.pick(&formulas));
     }
-}
-
-/// A tower of height 8 or 9 whose highest formula has op 9 or 11.
-fn tower_with_slots(random: &mut Random, lines: &mut Lines) {
-    let stories = random.between(7, 8);
-    build(random, lines, stories);
-    let before = count(lines, 4) as u8 - 1;
-    let op = random.pick(&[9, 11]);
-    put_formula(lines, [op, random.octet_between(0, 3), before]);
 }
 
 /// A formula of op 0 to 4 with something where 0 belongs, or a role or label of 16 and above.

@@ -1,19 +1,16 @@
 //! Which formulas of request 2026-03 a valid bundle has.
 
 use crate::formulas::children;
-use crate::limits::heights;
 use crate::policy::Lines;
 
 /// What is looked for, by name.
-pub const SHAPES: [&str; 8] = [
+pub const SHAPES: [&str; 6] = [
     "op 9",
     "op 10",
     "op 11",
     "op 9 inside op 9 on the same slot",
     "op 9 inside op 9 on another slot",
     "op 11 inside a step inside op 9 on the same slot",
-    "height 8 by op 9",
-    "height 8 by op 11",
 ];
 
 /// The formulas of a bundle, each with those that it uses, directly or through others.
@@ -26,10 +23,6 @@ struct Formulas {
 /// Whether each shape is there.
 pub fn shapes(lines: &Lines) -> [bool; SHAPES.len()] {
     let all = Formulas::of(lines);
-    let highest = |op: u8| {
-        let mut heights = all.formulas.iter().zip(heights(lines));
-        heights.any(|(formula, height)| formula[0] == op && height == 8)
-    };
     let mut shapes = [false; SHAPES.len()];
     for &[op, slot, b] in &all.formulas {
         shapes[0] |= op == 9;
@@ -41,7 +34,6 @@ pub fn shapes(lines: &Lines) -> [bool; SHAPES.len()] {
             shapes[5] |= all.returns(b, slot);
         }
     }
-    (shapes[6], shapes[7]) = (highest(9), highest(11));
     shapes
 }
 

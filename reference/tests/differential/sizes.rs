@@ -1,6 +1,7 @@
 //! How large a generated policy is: small ones, and ones at each limit of the contract.
 
 use crate::random::Random;
+use crate::support::HIGHEST;
 
 /// How many lines of each kind, and from how many values they are drawn.
 #[derive(Clone, Copy)]
@@ -10,7 +11,7 @@ pub struct Sizes {
     pub labels: usize,
     pub edges: usize,
     pub formulas: usize,
-    /// Whether the first formulas form a tower of height 8.
+    /// Whether the first formulas form a tower of the greatest height.
     pub tower: bool,
     /// From how many slots ops 9 to 11 are drawn; with 0 there are none of these ops.
     pub slots: usize,
@@ -34,7 +35,7 @@ pub const LIMITS: [&str; 16] = [
     "255 users",
     "512 edges",
     "64 formulas",
-    "height 8",
+    "the greatest height",
     "20 demarcations",
     "190 hierarchy pairs",
     "20 principals",
@@ -164,7 +165,10 @@ impl Sizes {
                 self.objects = random.between(8, 60);
             }
             4 => self.formulas = 64,
-            _ => (self.formulas, self.tower) = (self.formulas.max(9), true),
+            _ => {
+                self.formulas = self.formulas.max(usize::from(HIGHEST) + 1);
+                self.tower = true;
+            }
         }
         self
     }

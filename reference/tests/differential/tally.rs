@@ -5,7 +5,7 @@ use crate::cases::Case;
 use crate::limits::reached;
 use crate::outcome::Outcome;
 use crate::sizes::LIMITS;
-use crate::support::principal_count;
+use crate::tally_height::Heights;
 use crate::tally_lent::{Counts, Event};
 use crate::tally_naming::Naming;
 use crate::tally_tickets::{Setting, Tickets};
@@ -64,6 +64,7 @@ pub struct Tally {
     lent: Counts,
     tickets: Tickets,
     naming: Naming,
+    heights: Heights,
 }
 
 impl Tally {
@@ -74,6 +75,7 @@ impl Tally {
         self.refused(number);
         self.loaded += u64::from(number == 0);
         self.naming.bundle(outcome, case);
+        self.heights.bundle(outcome, case);
         if let Some(lines) = &case.valid {
             let places = self.limits.iter_mut().zip(reached(lines));
             places.for_each(|(count, reached)| *count += u64::from(reached));
@@ -112,10 +114,12 @@ impl Tally {
         self.lent.add(Event::TicketsAlone, tickets);
     }
 
-    /// Counts an answer on a lent record, if it is to a ticket or depends on a slot.
+    /// Counts an answer on a lent record, if it is to a ticket, depends on a slot, or may depend on
+    /// a formula at the limit of height.
     pub fn lent_answer(&mut self, call: &[u8], answer: &[u8], setting: Setting, noted: Noted) {
         self.tickets.add(call, answer[0], setting);
         self.naming.answer(call, answer, setting, noted);
+        self.heights.answer(call, answer, setting);
     }
 
     /// Counts a write of a lent record.
@@ -145,17 +149,14 @@ impl Tally {
     ) {
         let calls = &case.calls;
         self.lists += u64::from(!calls.is_empty());
-        let mut setting = Setting {
-            lent: false,
-            edited: false,
-            principal_count: principal_count(&case.text),
-        };
+        let mut setting = Setting::before_edits(false, &case.text);
         for (call, answer) in calls.iter().zip(answers) {
             self.calls += 1;
             self.answer(call[0], answer, setting.principal_count > 0);
             self.tickets.add(call, answer[0], setting);
             let noted = watch.note(call, answer);
             self.naming.answer(call, answer, setting, noted);
+            self.heights.answer(call, answer, setting);
             setting.edited |= call[0] <= 1 && answer[0] == 0;
         }
     }
@@ -201,6 +202,7 @@ impl Tally {
         self.print_answers();
         self.tickets.print();
         self.naming.print();
+        self.heights.print();
         self.lent.print();
         println!("\nvalid bundles by the limits they reach");
         for (name, count) in LIMITS.iter().zip(self.limits) {
@@ -238,6 +240,7 @@ impl Tally {
         gaps.extend(missed.map(|(name, _)| format!("no bundle reached: {name}")));
         gaps.extend(self.tickets.gaps(LEAST));
         gaps.extend(self.naming.gaps(LEAST));
+        gaps.extend(self.heights.gaps(LEAST));
         gaps.extend(self.lent.gaps());
         gaps
     }

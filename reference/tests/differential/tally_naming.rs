@@ -5,6 +5,7 @@ use crate::cases::Case;
 use crate::faults::{self, RULES};
 use crate::outcome::Outcome;
 use crate::shapes::{shapes, SHAPES};
+use crate::table;
 use crate::tally_tickets::{Setting, SETTINGS};
 use crate::watch::Noted;
 
@@ -77,14 +78,14 @@ impl Naming {
         for (name, count) in SHAPES.iter().zip(self.shapes) {
             println!("{count:>9}  {name}");
         }
-        println!("\nbundles refused (6) by a rule about ops 9 to 11 alone");
+        println!("\nbundles refused (6) by a rule about ops 9 to 11 alone, that of height aside");
         for (name, count) in RULES.iter().zip(self.rules) {
             println!("{count:>9}  {name}");
         }
         println!("\nanswers that would be others with ops 10 and 11 false, by the record");
-        table(&SETTINGS, &ANSWERS, &self.answers);
+        table::print(&SETTINGS, &ANSWERS, &self.answers);
         println!("\nof these, others than before an accepted edit");
-        table(&["replay", "lent"], &CHANGED, &self.changed);
+        table::print(&["replay", "lent"], &CHANGED, &self.changed);
     }
 
     /// What occurred less often than it ought to.
@@ -95,41 +96,16 @@ impl Naming {
             .chain(rules)
             .map(|(name, count)| (name.to_string(), count))
             .collect();
-        counts.extend(cells(
+        counts.extend(table::cells(
             "depends on a slot",
             &SETTINGS,
             &ANSWERS,
             &self.answers,
         ));
         let settings = ["replay", "lent"];
-        counts.extend(cells("changed", &settings, &CHANGED, &self.changed));
+        counts.extend(table::cells("changed", &settings, &CHANGED, &self.changed));
         counts.retain(|(_, count)| *count < least);
         let gap = |(name, count): (String, u64)| format!("only {count} times: {name}");
         counts.into_iter().map(gap).collect()
     }
-}
-
-/// Prints counts under the names of their columns.
-fn table<const N: usize>(columns: &[&str; N], names: &[&str], rows: &[[u64; N]]) {
-    println!("{}", columns.map(|name| format!("{name:>15}")).concat());
-    for (name, row) in names.iter().zip(rows) {
-        let counts = row.map(|count| format!("{count:>15}"));
-        println!("{}  {name}", counts.concat());
-    }
-}
-
-/// The counts of a table, each with what it is of.
-fn cells<const N: usize>(
-    what: &str,
-    columns: &[&str; N],
-    names: &[&str],
-    rows: &[[u64; N]],
-) -> Vec<(String, u64)> {
-    let of_row = |(name, row): (&&str, &[u64; N])| -> Vec<(String, u64)> {
-        let cells = columns.iter().zip(row);
-        cells
-            .map(|(column, &count)| (format!("{name}, {what} ({column})"), count))
-            .collect()
-    };
-    names.iter().zip(rows).flat_map(of_row).collect()
 }

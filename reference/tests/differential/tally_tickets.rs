@@ -1,6 +1,8 @@
 //! What tickets were answered, counted by the setting of the call.
 
 use crate::calls::TICKET;
+use crate::heights::{at_limit_of_principals, Found};
+use crate::support::principal_count;
 
 /// What is known of the record that a call is answered on.
 #[derive(Clone, Copy)]
@@ -10,9 +12,22 @@ pub struct Setting {
     /// Whether an edit was accepted before.
     pub edited: bool,
     pub principal_count: usize,
+    /// Which of the principals' formulas have the greatest height.
+    pub at_limit: Found,
 }
 
 impl Setting {
+    /// A record with the rules of a text that loads, before any edit; an empty text stands for a
+    /// record that was never loaded.
+    pub fn before_edits(lent: bool, text: &[u8]) -> Setting {
+        Setting {
+            lent,
+            edited: false,
+            principal_count: principal_count(text),
+            at_limit: at_limit_of_principals(text),
+        }
+    }
+
     /// Its place among the settings that are told apart.
     pub fn column(self) -> usize {
         2 * usize::from(self.lent) + usize::from(self.edited)

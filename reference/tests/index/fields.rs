@@ -1,6 +1,8 @@
-//! The fields of the engine's record, without the octets that lie between them.
+//! The fields of the engine's record, without the octets that lie between them, and other values in
+//! the place of some.
 
 use crate::engine::{Record, INDEX, RECORD_OCTETS};
+use reference::Index;
 use std::mem::{offset_of, size_of};
 
 /// The record, laid out as C does; truth values are octets here.
@@ -48,5 +50,28 @@ impl Fields {
     pub fn with_memo_emptied(self) -> Fields {
         let memo = [0; 130];
         Fields { memo, ..self }
+    }
+}
+
+/// Puts an index into a record's octets.
+pub fn put_index(record: &mut Record, index: &Index) {
+    let numbers = [&index.firsts[..], &index.counts, &index.places].concat();
+    let octets = record.0[INDEX..].chunks_exact_mut(2);
+    for (octets, number) in octets.zip(numbers) {
+        octets.copy_from_slice(&number.to_ne_bytes());
+    }
+}
+
+/// Puts formulas into a record's octets, as many as there are; "unused places zero".
+pub fn put_formulas(record: &mut Record, formulas: &[[u8; 3]]) {
+    let count = formulas.len().to_ne_bytes();
+    let place = offset_of!(Fields, formula_count);
+    record.0[place..place + count.len()].copy_from_slice(&count);
+    let columns = record.0[offset_of!(Fields, formulas)..].chunks_exact_mut(64);
+    for (number, column) in columns.take(3).enumerate() {
+        column.fill(0);
+        for (octet, formula) in column.iter_mut().zip(formulas) {
+            *octet = formula[number];
+        }
     }
 }

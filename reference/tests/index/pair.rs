@@ -1,6 +1,6 @@
 //! A lent record at both implementations, which must agree on it.
 
-use crate::engine::{self, Record, INDEX};
+use crate::engine::{self, Record};
 use crate::fields::Fields;
 use crate::support::{call, Call};
 use reference::{Index, Policy};
@@ -94,24 +94,42 @@ impl Pair {
         });
     }
 
-    /// With another index in the engine's record every call is refused with 19 and leaves every
-    /// octet; then the right one is put back.
-    pub fn check_refused(&mut self, index: &Index, calls: &[Call]) {
+    /// The rules of another text that loads, with the edits so far: the engine's record is this one,
+    /// with octets altered so that it is the same as the one that is loaded and edited.
+    pub fn altered(&self, text: &[u8], alter: impl FnOnce(&mut Record)) -> Pair {
+        let mut pair = Pair::loaded(self.name.clone(), text);
+        pair.answer(&self.calls);
+        let loaded = Fields::of(&pair.engine);
+        pair.engine.clone_from(&self.engine);
+        alter(&mut pair.engine);
+        let same = Fields::of(&pair.engine) == loaded;
+        pair.must(same, || "an altered record is not the one that is loaded");
+        pair
+    }
+
+    /// With the engine's record altered every call is refused with 19 and leaves every octet; then
+    /// the right ones are put back.
+    pub fn check_refused(
+        &mut self,
+        altered: impl Display,
+        alter: impl FnOnce(&mut Record),
+        calls: &[Call],
+    ) {
         let right = self.engine.clone();
-        put(&mut self.engine, index);
+        alter(&mut self.engine);
         let wrong = self.engine.clone();
         for call in calls {
             let answer = self.answer_by_engine(&[*call]);
             let refused = answer == [[19, 0, 0, 0, 0]] && self.engine == wrong;
-            let what = || format!("{call:?} with the index {index:?}: {answer:?}, or the record");
+            let what = || format!("{call:?} with {altered}: {answer:?}, or the record");
             self.must(refused, what);
         }
         self.check_list_refused(calls);
         self.check_write_refused();
         let stays = self.engine == wrong;
-        self.must(stays, || "a list or a write with a wrong index, the record");
-        put(&mut self.engine, &engine::index(&right));
-        self.must(self.engine == right, || "the index put back");
+        let what = || format!("a list or a write with {altered}, the record");
+        self.must(stays, what);
+        self.engine = right;
     }
 
     /// The calls in one list, with one of a kind that there is not, which is answered with 4.
@@ -129,9 +147,9 @@ impl Pair {
         for room in [self.reference.write().len(), 0] {
             let mut out = vec![FILL; room];
             let value = engine::write(&self.engine, &mut out);
-            self.must(value == 19 << 32, || "writing with a wrong index");
+            self.must(value == 19 << 32, || "writing an altered record");
             let stays = out.iter().all(|&byte| byte == FILL);
-            self.must(stays, || "writing with a wrong index, the buffer");
+            self.must(stays, || "writing an altered record, the buffer");
         }
     }
 
@@ -154,14 +172,5 @@ impl Pair {
             self.text.escape_ascii(),
             self.calls
         );
-    }
-}
-
-/// Puts an index into a record's octets.
-fn put(record: &mut Record, index: &Index) {
-    let numbers = [&index.firsts[..], &index.counts, &index.places].concat();
-    let octets = record.0[INDEX..].chunks_exact_mut(2);
-    for (octets, number) in octets.zip(numbers) {
-        octets.copy_from_slice(&number.to_ne_bytes());
     }
 }

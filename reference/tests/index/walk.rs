@@ -3,6 +3,7 @@
 
 use crate::altered::{Given, WAYS};
 use crate::calls::{Subject, TICKET};
+use crate::fields::put_index;
 use crate::pair::Pair;
 use crate::policy::Lines;
 use crate::random::Random;
@@ -192,7 +193,9 @@ impl Walk<'_> {
             if altered == *given.right {
                 continue;
             }
-            self.pair.check_refused(&altered, &calls);
+            let alter = |record: &mut _| put_index(record, &altered);
+            self.pair
+                .check_refused(format_args!("the index {altered:?}"), alter, &calls);
             self.tally.refused(number, self.since);
             let asked = self.random.pick(&calls[2..]);
             self.give(&[asked]);

@@ -11,7 +11,7 @@ use crate::tables::Tables;
 use reference::Policy;
 
 /// So many random policies are tried.
-const POLICIES: usize = 400;
+const POLICIES: usize = 600;
 
 /// So many pairs of object and requestor on each.
 const PAIRS: usize = 3;

@@ -1,6 +1,8 @@
 //! A line sealer, and the bundles the tests start from.
 #![allow(dead_code)]
 
+pub mod high_part;
+
 use reference::{Policy, CALL_OCTETS};
 
 /// A call as octets.
@@ -11,6 +13,10 @@ pub fn call([kind, x, y, z]: [u8; 4], set: u32) -> Call {
     let [a, b, c, d] = set.to_be_bytes();
     [kind, x, y, z, a, b, c, d]
 }
+
+/// The greatest height of a formula, for all tests and benchmarks. Request 2026-05: "The highest
+/// formula in service has height 5. Make that the limit in place of 8. Height 6 is out of range".
+pub const HIGHEST: u8 = 5;
 
 /// The smallest bundle, as the contract prints it.
 pub const SMALLEST: &[u8] = b"02010101FB\n06FF000100000100F9\n";
@@ -74,36 +80,43 @@ pub fn crown() -> Vec<u8> {
     bundle(&crown_lines())
 }
 
-/// "the prescriber of this crown also prescribed the implant scan", said in two ways. Objects 0
-/// crown, 1 implant scan, 2 Ana (role 0, a clinician), 3 Ben; label 0 from a work to who prescribed
-/// it, label 1 from a crown to the scan that belongs to it. Ana prescribed both works.
+/// "the prescriber of this crown also prescribed the implant scan", said in two ways, and "the
+/// prescriber of this crown also designed it". Objects 0 crown, 1 implant scan, 2 Ana (role 0, a
+/// clinician), 3 Ben; label 0 from a work to who prescribed it, label 1 from a crown to the scan that
+/// belongs to it, label 2 from a crown to who designed it. Ana prescribed both works and designed
+/// the crown. Each sentence has a principal; methods ask for the first, for the second, for both of
+/// these, and for the third.
 pub fn implant_lines() -> Vec<Vec<u8>> {
     let mut lines = vec![vec![1, 1, 4], vec![2, 2, 0, 1], vec![2, 3, 0, 0]];
-    lines.extend([[3, 0, 0, 2], [3, 0, 1, 2], [3, 1, 0, 1]].map(Vec::from));
+    lines.extend([[3, 0, 0, 2], [3, 0, 1, 2], [3, 1, 0, 1], [3, 2, 0, 2]].map(Vec::from));
     lines.extend(implant_formulas().map(|formula| [&[4], &formula[..]].concat()));
-    lines.extend([1, 2].map(|privileges| weights(&[5], privileges)));
-    lines.extend([[7, 7, 0], [7, 11, 1]].map(Vec::from));
-    lines.extend([1, 2, 3].map(|all| weights(&[10, 1], all)));
+    lines.extend([1, 2, 4].map(|privileges| weights(&[5], privileges)));
+    lines.extend([[7, 4, 0], [7, 8, 1], [7, 13, 2]].map(Vec::from));
+    lines.extend([1, 2, 3, 4].map(|all| weights(&[10, 1], all)));
     lines
 }
 
-/// The first way is formula 7: some prescriber, kept in slot 0, prescribed the crown, whose scan
-/// has that prescriber too. The second is formula 11: the crown is kept in slot 1 before, and op 11
-/// leads back to it.
-pub fn implant_formulas() -> [[u8; 3]; 12] {
+/// The crown is kept in slot 0 by the first two. The first is formula 4: some prescriber of it
+/// prescribed a scan that belongs to the kept crown. The second, formula 8, goes the other way
+/// round: its scan has a prescriber who prescribed the kept crown. The third is formula 13, of the
+/// greatest height: the crown is kept in slot 1 and a prescriber of it in slot 0, then op 11 leads
+/// back to the crown, and the person in slot 0 designed it.
+pub fn implant_formulas() -> [[u8; 3]; 14] {
     [
         [10, 0, 0],
-        [7, 0, 0],
-        [7, 1, 1],
-        [2, 0, 0],
-        [5, 3, 2],
-        [8, 0, 4],
-        [9, 0, 5],
-        [7, 0, 6],
-        [11, 1, 2],
-        [9, 0, 8],
-        [7, 0, 9],
-        [9, 1, 10],
+        [8, 1, 0],
+        [8, 0, 1],
+        [7, 0, 2],
+        [9, 0, 3],
+        [8, 0, 0],
+        [7, 0, 5],
+        [7, 1, 6],
+        [9, 0, 7],
+        [7, 2, 0],
+        [11, 1, 9],
+        [9, 0, 10],
+        [7, 0, 11],
+        [9, 1, 12],
     ]
 }
 
