@@ -1,3 +1,4 @@
 pub mod Interface
 pub mod Lent
 pub mod LentLaws
+pub mod EveryCall

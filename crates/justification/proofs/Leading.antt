@@ -11,7 +11,7 @@ use Rattle.common.specs.Lists.{at}
 use Rattle.closure.specs.Closure.{On, Listed, pairsOf, Closes, reaches}
 use Rattle.closure.specs.ClosureFact.{closed-reaches}
 use Rattle.tables.specs.Loads.{pairsLoad}
-use Rattle.tables.specs.LoadsLaws.{pairs-few, pairs-named}
+use Rattle.tables.specs.LoadsLaws.{pairs-named, pairs-relation}
 use Rattle.justification.specs.MarkedSets.{Marks}
 
 pub leading : (things n : ℕ) (a b : List ℕ) (m c : List (List Bool)) (sets : List ℕ) → pairsLoad things n a b ≡ true → things ≤ mostRelated
@@ -27,9 +27,6 @@ leading things n a b m c sets loads few rel closes marks j lj =
       all = λ p lp e. marks j lj .all p lp (law p j lp lj .1 e);
     }
   where
-    all-pairs : min n mostPairs ≡ n
-    all-pairs = omega (arith, pairs-few things n a b loads)
-
     size : min things mostRelated ≡ things
     size = omega arith
 
@@ -39,8 +36,5 @@ leading things n a b m c sets loads few rel closes marks j lj =
     closed : Closes things (On m) (On c)
     closed = subst (λ (k : ℕ). Closes k (On m) (On c)) size closes
 
-    same : (i k : ℕ) → i < mostRelated → k < mostRelated → (On m i k ↔ Listed (pairsOf n a b) i k)
-    same i k li lk = subst (λ (x : ℕ). On m i k ↔ Listed (pairsOf x a b) i k) all-pairs (rel i k li lk)
-
     law : (i k : ℕ) → i < things → k < things → (On c i k ↔ (reaches (pairsOf n a b) i k ≡ true))
-    law = closed-reaches (pairsOf n a b) {R = On m} named (λ i k li lk. same i k (omega arith) (omega arith)) closed
+    law = closed-reaches (pairsOf n a b) {R = On m} named (pairs-relation things n a b loads m few rel) closed

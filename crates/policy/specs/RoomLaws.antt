@@ -19,7 +19,7 @@ use Rattle.policy.specs.declared.Record.{Record}
 use Rattle.policy.specs.Table.{Kind, head, user, edge, formula, demarcation, hierarchy, principal, exclusion, prerequisite, method}
 use Rattle.policy.specs.Table.{end, code, count, room, row}
 use Rattle.rows.specs.Checks.{causes, pairInRange, pairKey}
-use Rattle.policy.specs.Rows.{inRange, minimumKey, rowCauses, rowRefusal}
+use Rattle.policy.specs.Rows.{inRange, key, minimumKey, rowCauses, rowRefusal}
 use Rattle.policy.specs.Loadable.{rowsLoad, tableLoads}
 use Rattle.policy.specs.LoadableLaws.{head-range, table-few, table-rows}
 use Rattle.policy.specs.RowLaws.{passed, row-limit}
@@ -160,38 +160,40 @@ row-passes k r n e =
     let p = and-cases (rowsLoad r k n) _ (sym (every-more (λ i. eqb (rowRefusal k i r (row k i r)) 0) n (λ i. i)) ∙ e) in
     (p .0, eqb-true (rowRefusal k n r (row k n r)) 0 (p .1))
 
-user-rows : (r : Record) (n : ℕ) → rowsLoad r user n ≡ true → UserRoom (minimumKey user n r) n
-unfolding rowRefusal rowCauses inRange
-user-rows r zero e = user-none 0 refl
-user-rows r (suc n) e =
-    let p = row-passes user r n e in user-more (user-rows r n (p .0)) (r .objects) (at (r .«user_objects») n) (p .1) refl (sym (add-one n))
+-- what holds before the first line, and behind one more that passes, holds behind all of them
+by-lines : (k : Kind) (r : Record) (P : ℕ → ℕ → Type 0) → P 0 0
+    → ((n : ℕ) → P (minimumKey k n r) n → rowRefusal k n r (row k n r) ≡ 0 → P (key k (row k n r) + 1) (suc n))
+    → (n : ℕ) → rowsLoad r k n ≡ true → P (minimumKey k n r) n
+by-lines k r P none more zero e = none
+by-lines k r P none more (suc n) e = let p = row-passes k r n e in more n (by-lines k r P none more n (p .0)) (p .1)
 
 module _ (r : Record) where
+  user-rows : (n : ℕ) → rowsLoad r user n ≡ true → UserRoom (minimumKey user n r) n
+  unfolding rowRefusal rowCauses inRange
+  user-rows =
+      by-lines user r UserRoom (user-none 0 refl)
+      (λ n u p. user-more u (r .objects) (at (r .«user_objects») n) p refl (sym (add-one n)))
+
   hierarchy-rows : r .«demarcation_count» ≤ mostPrincipals → (n : ℕ) → rowsLoad r hierarchy n ≡ true → PairRoom (minimumKey hierarchy n r) n
   unfolding rowRefusal rowCauses inRange
-  hierarchy-rows few zero e = pair-none 0 refl
-  hierarchy-rows few (suc n) e =
-      let p = row-passes hierarchy r n e in
-      pair-more (hierarchy-rows few n (p .0)) (r .«demarcation_count») (at (r .inferiors) n) (at (r .superiors) n) few (p .1) refl
-      (sym (add-one n))
+  hierarchy-rows few =
+      by-lines hierarchy r PairRoom (pair-none 0 refl)
+      (λ n u p. pair-more u (r .«demarcation_count») (at (r .inferiors) n) (at (r .superiors) n) few p refl (sym (add-one n)))
 
   prerequisite-rows : r .«principal_count» ≤ mostPrincipals → (n : ℕ) → rowsLoad r prerequisite n ≡ true
       → PairRoom (minimumKey prerequisite n r) n
   unfolding rowRefusal rowCauses inRange
-  prerequisite-rows few zero e = pair-none 0 refl
-  prerequisite-rows few (suc n) e =
-      let p = row-passes prerequisite r n e in
-      pair-more (prerequisite-rows few n (p .0)) (r .«principal_count») (at (r .prerequisites) n) (at (r .dependents) n) few (p .1) refl
-      (sym (add-one n))
+  prerequisite-rows few =
+      by-lines prerequisite r PairRoom (pair-none 0 refl)
+      (λ n u p. pair-more u (r .«principal_count») (at (r .prerequisites) n) (at (r .dependents) n) few p refl (sym (add-one n)))
 
   exclusion-rows : r .«principal_count» ≤ mostPrincipals → (n : ℕ) → rowsLoad r exclusion n ≡ true
       → ExclusionRoom (minimumKey exclusion n r) n
   unfolding rowRefusal rowCauses inRange
-  exclusion-rows few zero e = exclusion-none 0 refl
-  exclusion-rows few (suc n) e =
-      let p = row-passes exclusion r n e in
-      exclusion-more (exclusion-rows few n (p .0)) (r .«principal_count») (at (r .«exclusion_lows») n) (at (r .«exclusion_highs») n) few
-      (p .1) refl (sym (add-one n))
+  exclusion-rows few =
+      by-lines exclusion r ExclusionRoom (exclusion-none 0 refl)
+      (λ n u p. exclusion-more u (r .«principal_count») (at (r .«exclusion_lows») n) (at (r .«exclusion_highs») n) few p refl
+      (sym (add-one n)))
 
 -- THE LAW: where the tables load, a line that passes its check has room
 pub room-left : (k : Kind) (r : Record) (v : List ℕ) → 1 < code k → code k < 0xFF → ((j : Kind) → tableLoads r j ≡ true)

@@ -1,4 +1,4 @@
--- Formulas in range: their ops, parts and heights (document 01, "Formulas"; request 2026-03).
+-- Formulas in range: their ops, parts and heights (document 01, "Formulas"; requests 2026-03 and 2026-05).
 use mathlib.Core.Bool.{Bool, false, cond, _&&_}
 use Prim.Native.Nat.{ℕ, suc, max}
 use lib.Dec.{ltb, leb, eqb}
@@ -61,6 +61,7 @@ heightOf inSlot a b part = 0
 heightOf atSlot a b part = suc (part b)
 heightOf unknown a b part = 0
 
--- the formula (op, a, b) numbered i, with a height h, is in range
+-- the formula (op, a, b) numbered i, with a height h, is in range; request 2026-05: "Height 6 is out of range, in a bundle and in a record
+-- handed in": both are judged by this
 abbrev pub formulaInRange : ℕ → ℕ → ℕ → ℕ → ℕ → Bool
 formulaInRange i op a b h = partsInRange (opOf op) i a b && leb h greatestHeight

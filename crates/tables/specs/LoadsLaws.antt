@@ -1,17 +1,18 @@
 -- Laws of `Loads`: what a table that loads says.
-use Prim.Native.Nat.{ℕ, zero, suc, _≤_, _<_}
-use mathlib.Core.Path.{_≡_, refl, sym, _∙_, subst₂}
-use mathlib.Core.Logic.{⊎-elim}
+use Prim.Native.Nat.{ℕ, zero, suc, min, _≤_, _<_}
+use mathlib.Core.Path.{_≡_, refl, sym, _∙_, subst, subst₂}
+use mathlib.Core.Logic.{_↔_, ⊎-elim}
 use mathlib.Core.Bool.{Bool, true, false, false≢true, not}
 use mathlib.Core.List.{List, [], _∷_}
+use native.Mathlib.Omega.{arith}
 use lib.Dec.{ltb, leb, eqb}
 use borrow.Author.Tests.{ltb-true, leb-true, eqb-false, not-true}
-use Rattle.common.specs.Limits.{mostPairs}
+use Rattle.common.specs.Limits.{mostPairs, mostRelated}
 use Rattle.common.specs.Lists.{at, every, below}
 use Rattle.common.specs.ListLaws.{every-more}
 use Rattle.common.specs.BoolLaws.{and-cases}
 use Rattle.common.specs.Causes.{first}
-use Rattle.closure.specs.Closure.{Listed, pairsOf}
+use Rattle.closure.specs.Closure.{On, Listed, pairsOf}
 use Rattle.closure.specs.ClosureFact.{listed-append}
 use Rattle.rows.specs.Checks.{causes, pairInRange}
 use Rattle.tables.specs.Loads.{linesLoad, minimumAt, risingRefusal, noLimit, pairFits, pairKeys, pairsLoad}
@@ -58,3 +59,11 @@ module _ (things n : ℕ) (a b : List ℕ) (loads : pairsLoad things n a b ≡ t
   pairs-proper i l =
       let p = and-cases (ltb i things) _ (pairs-in-range things n a b all-rows i i l) in
       eqb-false i i (not-true (eqb i i) (and-cases (ltb i things) _ (p .1) .1)) refl
+
+  -- the code's relation, on as many things and pairs as there may be, is on the things that there are the one that the lines list
+  pub pairs-relation : (m : List (List Bool)) → things ≤ mostRelated
+      → ((i j : ℕ) → i < mostRelated → j < mostRelated → (On m i j ↔ Listed (pairsOf (min n mostPairs) a b) i j))
+      → (i j : ℕ) → i < things → j < things → (On m i j ↔ Listed (pairsOf n a b) i j)
+  pairs-relation m few rel i j li lj =
+      let all : min n mostPairs ≡ n = omega (arith, pairs-few) in
+      subst (λ (k : ℕ). On m i j ↔ Listed (pairsOf k a b) i j) all (rel i j (omega arith) (omega arith))
