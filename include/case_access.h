@@ -26,9 +26,9 @@
 /* ---- version */
 
 #define ACCESS_VERSION_MAJOR 0
-#define ACCESS_VERSION_MINOR 1
+#define ACCESS_VERSION_MINOR 6
 #define ACCESS_VERSION_PATCH 0
-#define ACCESS_VERSION "0.1.0"
+#define ACCESS_VERSION "0.6.0"
 
 /* ---- sizes */
 
@@ -224,8 +224,9 @@ uint64_t access_write(const access_record *record, uint8_t *out, size_t out_leng
 
 /* ---- one call on a record. A number above 255 is taken as 255, which is no method, no object and no label. */
 
-/* The answer to a question. Number 0: granted, the least set that will do. Number 17: denied. Other numbers: refused. The set is
- * empty but for a grant; principal p is a member where set >> p & 1. */
+/* The answer to a question. Number 0: granted, the least set that will do: fewest members, then fewest role principals (formula of
+ * op 3), then the smallest set number. Number 17: denied. Other numbers: refused. The set is empty but for a grant; principal p is a
+ * member where set >> p & 1. */
 typedef struct access_decision {
     unsigned number;
     uint32_t set;

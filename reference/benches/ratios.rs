@@ -83,8 +83,10 @@ fn main() {
     section(tower::TITLE, tower::workloads, &mut longest);
     section(labels::EVEN, labels::even, &mut longest);
     section(labels::STEP, labels::steps, &mut longest);
-    let covers = is_wanted(cover::TITLE).then(|| cover::workloads(&mut longest));
-    section(cover::TITLE, || covers.unwrap_or_default(), &mut longest);
+    for cover in [cover::ALL_ROLES, cover::HALF_ROLES] {
+        let covers = is_wanted(cover.title).then(|| cover.workloads(&mut longest));
+        section(cover.title, || covers.unwrap_or_default(), &mut longest);
+    }
     section(tickets::TITLE, tickets::workloads, &mut longest);
     section(naming::TITLE, naming::workloads, &mut longest);
     section("edits", edits::workloads, &mut longest);

@@ -1,6 +1,6 @@
 //! Sets of principals: their order, their privileges, and whether they are consistent.
 
-use crate::policy::{Method, Policy};
+use crate::policy::{Method, Policy, Principal};
 use crate::relation::{same_or_related, transitive};
 use std::iter::{from_fn, successors};
 
@@ -83,13 +83,36 @@ pub fn members(set: u32) -> impl Iterator<Item = usize> {
     })
 }
 
-/// All sets of so many principals; "Least: fewest members, then smallest set number."
-pub fn least_first(principals: usize) -> impl Iterator<Item = u32> {
+/// All sets of the principals, least first: "fewest members", and by request 2026-06 "Among
+/// satisfying sets with equally few members, the one with fewer role principals (formula of op 3)
+/// now comes first, and then the smaller set number." The sets of a size are made once it is reached.
+pub fn least_first(policy: &Policy) -> impl Iterator<Item = u32> {
+    let principals = policy.principals.len();
+    let role_principals = role_principals(policy);
     (0..=principals).flat_map(move |size| {
-        let first = (1u32 << size) - 1;
-        successors(Some(first), |&set| next_of_size(set))
-            .take_while(move |&set| set < 1 << principals)
+        let mut by_roles = vec![Vec::new(); size + 1];
+        for set in of_size(size, principals) {
+            let roles = (set & role_principals).count_ones();
+            by_roles[roles as usize].push(set);
+        }
+        by_roles.into_iter().flatten()
     })
+}
+
+/// The set of all "role principals (formula of op 3)": the principal's own formula is of op 3. A
+/// formula that contains one of op 3 is itself of another op.
+fn role_principals(policy: &Policy) -> u32 {
+    let own = |principal: &Principal| policy.formulas[usize::from(principal.formula)];
+    (0..)
+        .zip(&policy.principals)
+        .filter(|(_, principal)| own(principal).op == 3)
+        .fold(0, |set, (p, _)| set | 1 << p)
+}
+
+/// All sets with so many members of so many principals, by rising set number.
+fn of_size(size: usize, principals: usize) -> impl Iterator<Item = u32> {
+    let first = (1u32 << size) - 1;
+    successors(Some(first), |&set| next_of_size(set)).take_while(move |&set| set < 1 << principals)
 }
 
 /// The next larger set number with as many members; the empty set has none.

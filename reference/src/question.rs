@@ -66,23 +66,23 @@ impl Policy {
 
     /// Evaluates every principal, then takes the least set there is.
     fn eager_set(&mut self, method: Method) -> Option<u32> {
-        let count = self.principals.len();
         let mut enabled = 0;
-        for p in 0..count {
+        for p in 0..self.principals.len() {
             if self.enabled(p) {
                 enabled |= 1 << p;
             }
         }
         let grounds = Grounds::of(self);
-        least_first(count).find(|&set| {
+        least_first(self).find(|&set| {
             set & !enabled == 0 && grounds.consistent(set) && grounds.meets(set, method)
         })
     }
 
-    /// Goes through the candidates, evaluating only what each one asks for.
+    /// Goes through the candidates, evaluating only what each one asks for. Request 2026-06: "The
+    /// lazy order of candidates follows."
     fn lazy_set(&mut self, method: Method) -> Option<u32> {
         let grounds = Grounds::of(self);
-        least_first(self.principals.len())
+        least_first(self)
             .filter(|&set| grounds.consistent(set) && grounds.meets(set, method))
             .find(|&candidate| self.survives(candidate))
     }

@@ -27,6 +27,8 @@ mod heights;
 mod lent;
 #[path = "differential/limits.rs"]
 mod limits;
+#[path = "differential/order.rs"]
+mod order;
 #[path = "differential/outcome.rs"]
 mod outcome;
 #[path = "differential/parts.rs"]
@@ -43,6 +45,8 @@ mod run;
 mod sealed;
 #[path = "differential/seeds.rs"]
 mod seeds;
+#[path = "differential/sets.rs"]
+mod sets;
 #[path = "differential/shapes.rs"]
 mod shapes;
 #[path = "differential/sizes.rs"]
@@ -58,6 +62,8 @@ mod tally_height;
 mod tally_lent;
 #[path = "differential/tally_naming.rs"]
 mod tally_naming;
+#[path = "differential/tally_order.rs"]
+mod tally_order;
 #[path = "differential/tally_tickets.rs"]
 mod tally_tickets;
 #[path = "differential/tickets.rs"]

@@ -8,8 +8,8 @@
 //!
 //! Each case depends on the seed and its number only. A difference is printed with its seed, its
 //! bundle, its calls and both results, and fails the test. So does a refusal that occurred too
-//! seldom, or an answer that depends on a slot, or a formula at the limit of height or one above it,
-//! or a limit that no bundle reached.
+//! seldom, or an answer that depends on a slot or shows the order of sets, or a formula at the limit
+//! of height or one above it, or a limit that no bundle reached.
 
 #[cfg(not(engine))]
 compile_error!("../target/staticlib/libcapi.a is missing: `rt staticlib capi` makes it");
@@ -36,6 +36,8 @@ mod heights;
 mod lent;
 #[path = "differential/limits.rs"]
 mod limits;
+#[path = "differential/order.rs"]
+mod order;
 #[path = "differential/outcome.rs"]
 mod outcome;
 #[path = "differential/parts.rs"]
@@ -52,6 +54,8 @@ mod run;
 mod sealed;
 #[path = "differential/seeds.rs"]
 mod seeds;
+#[path = "differential/sets.rs"]
+mod sets;
 #[path = "differential/shapes.rs"]
 mod shapes;
 #[path = "differential/sizes.rs"]
@@ -67,6 +71,8 @@ mod tally_height;
 mod tally_lent;
 #[path = "differential/tally_naming.rs"]
 mod tally_naming;
+#[path = "differential/tally_order.rs"]
+mod tally_order;
 #[path = "differential/tally_tickets.rs"]
 mod tally_tickets;
 #[path = "differential/tickets.rs"]

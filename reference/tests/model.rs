@@ -32,6 +32,7 @@ fn outcome(policy: Policy) -> (u8, u32) {
     (lazy.number, lazy.set)
 }
 
+/// Role principals come between; there is none here, and `tests/order.rs` is about them.
 #[test]
 fn least_is_fewest_members_then_smallest_number() {
     assert_eq!(outcome(grounds(&[1, 1, 2, 2], &[], 1, 3)), (0, 0b0101));

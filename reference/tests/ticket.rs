@@ -167,10 +167,15 @@ fn accepted(record: &Policy, lines: &Lines, asked: (u8, u8, u8), tally: &mut [us
     accepted
 }
 
-/// What the question grants is an accepted set, and of those one with fewest members; where none is
-/// accepted it is denied.
-fn compare_question(record: &Policy, (method, object, requestor): (u8, u8, u8), accepted: &[u32]) {
-    let least = accepted.iter().min_by_key(|set| (set.count_ones(), **set));
+/// What the question grants is the first accepted set; where none is accepted it is denied.
+fn compare_question(
+    record: &Policy,
+    lines: &Lines,
+    (method, object, requestor): (u8, u8, u8),
+    accepted: &[u32],
+) {
+    let sentences = Sentences::of(lines, object, requestor);
+    let least = accepted.iter().min_by_key(|set| sentences.place(**set));
     let eager = record.clone().ask_eager(method, object, requestor);
     let lazy = record.clone().ask_lazy(method, object, requestor);
     for answer in [eager, lazy] {
@@ -192,7 +197,7 @@ fn tickets_on_random_policies_follow_the_sentences() {
             let before = record.clone();
             let accepted = accepted(&record, &lines, asked, &mut tally);
             assert_eq!(record, before);
-            compare_question(&record, asked, &accepted);
+            compare_question(&record, &lines, asked, &accepted);
             let (method, object, requestor) = asked;
             record.ask_lazy(method, object, requestor);
         }

@@ -12,7 +12,8 @@ use std::fmt;
 pub enum Decision {
     /// Some set of grounds will do (number 0).
     Granted {
-        /// The least such set.
+        /// The least such set: fewest members, then fewest role principals, then the smallest set
+        /// number.
         set: Set,
         /// How many formulas were evaluated.
         evaluations: u8,

@@ -152,12 +152,14 @@ pub fn decide_eagerly(rules: Record, loads: bool, question: Question) -> Decisio
     let roles = formula::roles_of(rules.user_count, &rules.user_objects, &rules.user_roles, s);
     let method = index(question.method);
     let masks = justification::masks_of(
+        &rules.formula_ops,
         rules.demarcation_count,
         &rules.demarcation_privileges,
         rules.hierarchy_count,
         &rules.inferiors,
         &rules.superiors,
         rules.principal_count,
+        &rules.principal_formulas,
         &rules.principal_demarcations,
         rules.exclusion_count,
         &rules.exclusion_lows,
@@ -234,12 +236,14 @@ pub fn decide_lazily(rules: Record, loads: bool, question: Question) -> Decision
     let roles = formula::roles_of(rules.user_count, &rules.user_objects, &rules.user_roles, s);
     let method = index(question.method);
     let masks = justification::masks_of(
+        &rules.formula_ops,
         rules.demarcation_count,
         &rules.demarcation_privileges,
         rules.hierarchy_count,
         &rules.inferiors,
         &rules.superiors,
         rules.principal_count,
+        &rules.principal_formulas,
         &rules.principal_demarcations,
         rules.exclusion_count,
         &rules.exclusion_lows,

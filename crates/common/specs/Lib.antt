@@ -9,5 +9,4 @@ pub mod BoolLaws
 pub mod SetLaws
 pub mod CountLaws
 pub mod QuantifierLaws
-pub mod OrderLaws
 pub mod Halving

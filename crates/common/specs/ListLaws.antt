@@ -1,15 +1,15 @@
--- Laws of lists: by places, and quantifiers over a table row by row.
+-- Laws of lists: by places, quantifiers over a table row by row, the elements that pass.
 use Prim.Native.Nat.{ℕ, zero, suc, _+_, _≤_, _<_}
 use mathlib.Core.Path.{_≡_, refl, sym, _∙_, ap}
-use mathlib.Core.Bool.{Bool, true, false, false≢true, _&&_, _||_}
+use mathlib.Core.Bool.{Bool, true, false, false≢true, cond, _&&_, _||_}
 use mathlib.Core.List.{List, [], _∷_, _++_, map, map-append}
 use native.Mathlib.Omega.{arith}
 use native.Mathlib.Numerals.{add-one}
-use lib.ListN.{length, getD, take, drop, replicate}
+use lib.ListN.{length, length-append, getD, take, drop, replicate}
 use lib.Dec.{eqb}
 use borrow.Author.Tests.{eq-eqb, eqb-true}
 use lib.Seq.{take-suc, drop-cons}
-use Rattle.common.specs.Lists.{at, any, every, table, same}
+use Rattle.common.specs.Lists.{at, any, every, those, table, below, same}
 use Rattle.common.specs.BoolLaws.{and-true, and-cases, and-both}
 
 -- what is left at a place: the number there, and what is left at the next
@@ -108,3 +108,44 @@ pub zero-at : (n g : ℕ) → at (replicate n 0) g ≡ 0
 zero-at zero g = refl
 zero-at (suc n) zero = refl
 zero-at (suc n) (suc g) = zero-at n g
+
+-- ---- the elements that pass
+
+those-append : (p : ℕ → Bool) (l m : List ℕ) → those p (l ++ m) ≡ those p l ++ those p m
+those-append p [] m = refl
+those-append p (x ∷ l) m = go (p x) (those-append p l m)
+  where
+    go : (b : Bool) → those p (l ++ m) ≡ those p l ++ those p m
+        → cond b (x ∷ those p (l ++ m)) (those p (l ++ m)) ≡ cond b (x ∷ those p l) (those p l) ++ those p m
+    go true e = ap (λ (t : List ℕ). x ∷ t) e
+    go false e = e
+
+-- of the numbers below n, and of n
+pub those-more : (p : ℕ → Bool) (n : ℕ) → length (those p (below (suc n))) ≡ length (those p (below n)) + cond (p n) 1 0
+those-more p n =
+    ap length (those-append p (below n) (n ∷ []))
+    ∙ length-append (those p (below n)) (those p (n ∷ []))
+    ∙ ap (λ (k : ℕ). length (those p (below n)) + k) (go (p n))
+  where
+    go : (b : Bool) → length (cond b (n ∷ []) []) ≡ cond b 1 0
+    go true = refl
+    go false = refl
+
+-- that pass two tests, one after the other
+pub those-both : (p q : ℕ → Bool) (l : List ℕ) → those q (those p l) ≡ those (λ x. p x && q x) l
+those-both p q [] = refl
+those-both p q (x ∷ l) = go (p x) (those-both p q l)
+  where
+    go : (b : Bool) → those q (those p l) ≡ those (λ y. p y && q y) l
+        → those q (cond b (x ∷ those p l) (those p l)) ≡ cond (b && q x) (x ∷ those (λ y. p y && q y) l) (those (λ y. p y && q y) l)
+    go true e = ap (λ (t : List ℕ). cond (q x) (x ∷ t) t) e
+    go false e = e
+
+-- no more than there are
+pub those-few : (p : ℕ → Bool) (l : List ℕ) → length (those p l) ≤ length l
+those-few p [] = omega arith
+those-few p (x ∷ l) = go (p x) (those-few p l)
+  where
+    go : (b : Bool) → length (those p l) ≤ length l → length (cond b (x ∷ those p l) (those p l)) ≤ suc (length l)
+    go true h = omega arith
+    go false h = omega arith

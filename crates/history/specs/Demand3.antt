@@ -14,6 +14,7 @@ use Rattle.policy.specs.Edits.{added, removed}
 use Rattle.formula.specs.Formula.{isUser}
 use Rattle.search.specs.Search.{Before}
 use Rattle.justification.specs.declared.Question.{Question}
+use Rattle.justification.specs.Justification.{roleCount}
 use Rattle.justification.specs.Satisfying as satisfying
 use Rattle.justification.specs.Predicates.{questionRefusal}
 use Rattle.memo.specs.Memo.{memoFor, newly}
@@ -46,13 +47,18 @@ abbrev pub Satisfies : Record → Book → Question → ℕ → Type 0
 Satisfies b book q c = satisfying.Satisfies b (enabledIn b book q) (q .method) c
 
 -- "Each question with a known method, object and user is denied exactly when no set .. will do. Otherwise it returns such a set,
--- the least in the documents' order: every other such set has at least as many members", and of those with as many none
--- has a smaller number (`Before`). A question that is refused changes nothing.
+-- the least in the documents' order: every other such set has at least as many members." The order is `Before`: by members, since 2026-06
+-- then by role principals, then by number. A question that is refused changes nothing.
 pub record QuestionHolds (b : Record) (book : Book) (q : Question) (r : Record) (a : Answer) : Type 0 where
   pub denied : Known b q → ((a .number ≡ noSet) ↔ ((c : ℕ) → Satisfies b book q c → ⊥))
   pub empty : Known b q → a .number ≡ noSet → a .set ≡ 0
   pub granted : Known b q → a .number ≢ noSet
-      → (a .number ≡ 0) × Satisfies b book q (a .set) × ((c : ℕ) → Satisfies b book q c → Before (a .set) c)
+      → (a .number ≡ 0) × Satisfies b book q (a .set) × ((c : ℕ) → Satisfies b book q c → Before (roleCount b) (a .set) c)
+  -- "every other such set has at least as many members", whatever the order among these is
+  pub fewest : Known b q → a .number ≢ noSet → (c : ℕ) → Satisfies b book q c → ones (a .set) ≤ ones c
+  -- 2026-06: "a grant shown by relation where one exists": no other such set with equally few members has fewer role principals
+  pub byRelation : Known b q → a .number ≢ noSet → (c : ℕ) → Satisfies b book q c → ones (a .set) ≡ ones c
+      → roleCount b (a .set) ≤ roleCount b c
   -- "the documents' count": "the number of formulas known after and not known before (before is counted after the emptying)"
   pub counted : Known b q → a .evaluations ≡ newly (memoFor (r .memo) q) (a .rules .memo)
   pub refused : (Known b q → ⊥) → (a .rules ≡ r) × (a .set ≡ 0) × (a .evaluations ≡ 0) × (a .number ≢ 0)

@@ -21,7 +21,7 @@ use Rattle.rows.specs.Checks.{edgeInRange}
 use Rattle.policy.specs.Edits.{without, added, removed}
 use Rattle.formula.specs.Formula.{isUser}
 use Rattle.justification.specs.declared.Question.{Question}
-use Rattle.justification.specs.Justification.{least}
+use Rattle.justification.specs.Justification.{roleCount, least}
 use Rattle.justification.specs.SatisfyingLaws.{passes, passes-satisfies, satisfies-inside, satisfies-passes}
 use Rattle.justification.specs.Predicates.{questionRefusal}
 use Rattle.justification.specs.Order.{IsLeast}
@@ -36,7 +36,7 @@ use Rattle.access.specs.CorrectMemoLaws.{emptied-correct}
 use Rattle.memo.specs.Memo.{memoFor, newly}
 use Rattle.memo.specs.WalkLaws.{MemoLengths}
 use Rattle.search.specs.Search.{Before}
-use Rattle.search.specs.SearchLaws.{before-members}
+use Rattle.search.specs.SearchLaws.{before-members, before-role-count}
 use Rattle.tickets.specs.declared.Ticket.{Ticket}
 use Rattle.tickets.specs.Tickets.{ticketOf, ticketRefusal, SetNumber}
 use Rattle.tickets.specs.TicketLaws.{set-number, ticket-after}
@@ -145,7 +145,7 @@ module _ (b : Record) (book : Book) (r : Record) (h : Agrees b book r) where
     does : (c : ℕ) → c < 2 ^ (b .«principal_count») → will-do c ≡ true → Satisfies b book q c
     does = passes-satisfies b (q .method) (enabledIn b book q)
 
-    least-does : IsLeast (b .«principal_count») will-do (least b (q .method) (enabledIn b book q))
+    least-does : IsLeast (roleCount b) (b .«principal_count») will-do (least b (q .method) (enabledIn b book q))
     least-does = order.least-is b (q .method) (enabledIn b book q)
 
     -- such a set, as a number that is looked for
@@ -153,11 +153,11 @@ module _ (b : Record) (book : Book) (r : Record) (h : Agrees b book r) where
     found-among c f w = f (satisfies-inside b (q .method) (enabledIn b book q) w) (satisfies-passes b (q .method) (enabledIn b book q) c w)
 
     -- what the verdict of a least set says
-    module _ (found : Option ℕ) (is : IsLeast (b .«principal_count») will-do found) where
+    module _ (found : Option ℕ) (is : IsLeast (roleCount b) (b .«principal_count») will-do found) where
       verdict-denied : (verdict found .number ≡ noSet) ↔ ((c : ℕ) → Satisfies b book q c → ⊥)
       verdict-denied = go found is
         where
-          go : (f : Option ℕ) → IsLeast (b .«principal_count») will-do f
+          go : (f : Option ℕ) → IsLeast (roleCount b) (b .«principal_count») will-do f
               → ((verdict f .number ≡ noSet) ↔ ((c : ℕ) → Satisfies b book q c → ⊥))
           go none n = (λ e c w. found-among c (n c) w, λ f. refl)
           go (some c) n = (λ e. absurd (omega arith), λ f. absurd (f c (does c (n .0) (n .1))))
@@ -171,12 +171,13 @@ module _ (b : Record) (book : Book) (r : Record) (h : Agrees b book r) where
 
       verdict-granted : verdict found .number ≢ noSet
           → (verdict found .number ≡ 0) × Satisfies b book q (verdict found .set)
-          × ((c : ℕ) → Satisfies b book q c → Before (verdict found .set) c)
+          × ((c : ℕ) → Satisfies b book q c → Before (roleCount b) (verdict found .set) c)
       verdict-granted = go found is
         where
-          go : (f : Option ℕ) → IsLeast (b .«principal_count») will-do f
+          go : (f : Option ℕ) → IsLeast (roleCount b) (b .«principal_count») will-do f
               → verdict f .number ≢ noSet
-              → (verdict f .number ≡ 0) × Satisfies b book q (verdict f .set) × ((c : ℕ) → Satisfies b book q c → Before (verdict f .set) c)
+              → (verdict f .number ≡ 0) × Satisfies b book q (verdict f .set)
+              × ((c : ℕ) → Satisfies b book q c → Before (roleCount b) (verdict f .set) c)
           go none n x = absurd (x refl)
           go (some c) n x = (refl, does c (n .0) (n .1), λ d w. found-among d (n .2 d) w)
 
@@ -193,10 +194,9 @@ module _ (b : Record) (book : Book) (r : Record) (h : Agrees b book r) where
           empty =
               λ k. subst (λ (v : BookAnswer). v .number ≡ noSet → v .set ≡ 0) (sym (is-verdict k))
               (verdict-empty (least b (q .method) (enabledIn b book q)) least-does);
-          granted =
-              λ k. subst (λ (v : BookAnswer). v .number ≢ noSet → (v .number ≡ 0) × Satisfies b book q (v .set) ×
-              ((c : ℕ) → Satisfies b book q c → Before (v .set) c)) (sym (is-verdict k))
-              (verdict-granted (least b (q .method) (enabledIn b book q)) least-does);
+          granted = is-least;
+          fewest = λ k n c w. before-members (is-least k n .2 c w);
+          byRelation = λ k n c w e. before-role-count e (is-least k n .2 c w);
           counted = λ k. count (refusal-is b book r h q ∙ known-asked k);
           refused =
               λ n. (
@@ -210,6 +210,13 @@ module _ (b : Record) (book : Book) (r : Record) (h : Agrees b book r) where
       where
         is-verdict : Known b q → numberAndSet a ≡ verdict (least b (q .method) (enabledIn b book q))
         is-verdict k = e ∙ rw (eq-eqb (askRefusal b q) 0 (known-asked k)) refl
+
+        is-least : Known b q → a .number ≢ noSet
+            → (a .number ≡ 0) × Satisfies b book q (a .set) × ((c : ℕ) → Satisfies b book q c → Before (roleCount b) (a .set) c)
+        is-least k =
+            subst (λ (v : BookAnswer). v .number ≢ noSet → (v .number ≡ 0) × Satisfies b book q (v .set) ×
+            ((c : ℕ) → Satisfies b book q c → Before (roleCount b) (v .set) c)) (sym (is-verdict k))
+            (verdict-granted (least b (q .method) (enabledIn b book q)) least-does)
 
         turned : (Known b q → ⊥) → a ≡ refused (askRefusal b q) r
         turned n = other (λ z. n (asked-known z))
@@ -254,8 +261,8 @@ module _ (b : Record) (book : Book) (r : Record) (h : Agrees b book r) where
     -- a set that will do: the question is granted with one that has no more members
     no-more : (c : ℕ) (a : Answer) → QuestionHolds b book q r a → Known b q → Satisfies b book q c → NoMoreMembers (ticketOf q c) a
     no-more c a hold k w =
-        let (z, s, least) = hold .granted k (λ n. hold .denied k .0 n c w) in
-        record { granted = z; members = before-members (least c w) }
+        let some : a .number ≢ noSet = λ n. hold .denied k .0 n c w in
+        record { granted = hold .granted k some .0; members = hold .fewest k some c w }
 
     both-forms : BothForms r q
     both-forms =

@@ -11,7 +11,7 @@ use Rattle.common.specs.Sets.{In}
 use Rattle.closure.specs.Closure.{pairsOf, reaches}
 use Rattle.policy.specs.declared.Record.{Record}
 use Rattle.search.specs.declared.Masks.{Masks}
-use Rattle.justification.specs.Justification.{hasBelow}
+use Rattle.justification.specs.Justification.{hasBelow, isRolePrincipalIn}
 use Rattle.justification.specs.Satisfying.{AmongPairs}
 use Rattle.justification.specs.Masked.{Masked, Grounds, groundsOf}
 use Rattle.justification.specs.MarkedSets.{Marks}
@@ -27,6 +27,7 @@ pub record MaskedBy (g : Grounds) (m allowed : ℕ) (s : Masks) : Type 0 where
       → Marks (g .principals) (λ q. reaches (pairsOf (g .links) (g .prerequisites) (g .dependents)) q p) (at (s .needs) p)
   pub grants : (p k : ℕ) → p < g .principals → (In k (at (s .grants) p)
       ↔ (hasBelow (pairsOf (g .ranks) (g .inferiors) (g .superiors)) (g .demarcations) (g .lists) (at (g .held) p) k ≡ true))
+  pub rolePrincipals : Marks (g .principals) (isRolePrincipalIn (g .ops) (g .formulas)) (s .«role_principals»)
   pub every : s .every ≡ not (eqb (at (g .forms) m) 0)
   pub wanted : s .wanted ≡ at (g .guards) m
   pub bounded : s .wanted < 2 ^ privilegeCount
@@ -41,6 +42,7 @@ own-masks r m allowed s h =
       needed = λ p q lp i. h .needs p lp .only q i .0;
       needs = λ p q lp lq. (λ i. h .needs p lp .only q i .1, λ e. h .needs p lp .all q lq e);
       grants = granted-below r (s .grants) (h .grants);
+      rolePrincipals = h .rolePrincipals;
       every = h .every;
       wanted = h .wanted;
       bounded = h .bounded;

@@ -15,7 +15,7 @@ use Rattle.common.specs.SetLaws.{member-in, in-member, in-lt}
 use Rattle.closure.specs.Closure.{pairsOf, reaches}
 use Rattle.tables.specs.Loads.{pairsLoad}
 use Rattle.policy.specs.declared.Record.{Record}
-use Rattle.policy.specs.Table.{Kind, demarcation, hierarchy, principal, exclusion, prerequisite, method}
+use Rattle.policy.specs.Table.{Kind, formula, demarcation, hierarchy, principal, exclusion, prerequisite, method}
 use Rattle.policy.specs.Loadable.{tableLoads}
 use Rattle.policy.specs.LoadableLaws.{hierarchy-pairs, prerequisite-pairs, table-few}
 use Rattle.policy.specs.NamedLaws.{principal-named, exclusion-named}
@@ -67,6 +67,7 @@ masks-fit r m loads l =
       hierarchy = ranked;
       demarcated = demarcated;
       few = few;
+      formed = λ p k. omega (arith, principal-named r loads p k .0, table-few r formula (loads formula));
       holding = holding;
       excluding = table-few r exclusion (loads exclusion);
       excluded = λ i k. exclusion-named r loads i k;

@@ -5,6 +5,7 @@ use mathlib.Core.Bool.{Bool, not, cond, _&&_}
 use mathlib.Core.List.{List, [], _∷_, _++_, map}
 use mathlib.Core.Option.{Option, none, some}
 use lib.Dec.{eqb}
+use lib.ListN.{length}
 use Rattle.common.specs.Limits.{privilegeCount}
 use Rattle.common.specs.Lists.{at, any, every, those, below}
 use Rattle.common.specs.Sets.{member}
@@ -50,7 +51,21 @@ consistent r c =
     every (λ e. not (member (at e 0) c && member (at e 1) c)) (rows exclusion r)
     && every (λ q. every (λ p. member p c) (those (needs r q) (below (r .«principal_count»)))) (members r c)
 
--- ---- all sets, least first: fewest members, then smallest set number
+-- ---- role principals: "role principals (formula of op 3)" (2026-06)
+
+-- principal p is one, by the columns of the formulas' ops and the principals' formulas: its own formula is of op 3
+abbrev pub isRolePrincipalIn : List ℕ → List ℕ → ℕ → Bool
+isRolePrincipalIn ops formulas p = eqb (at ops (at formulas p)) 3
+
+abbrev pub isRolePrincipal : Record → ℕ → Bool
+isRolePrincipal r p = isRolePrincipalIn (r .«formula_ops») (r .«principal_formulas») p
+
+-- how many members of the set c are role principals
+abbrev pub roleCount : Record → ℕ → ℕ
+roleCount r c = length (those (isRolePrincipal r) (members r c))
+
+-- ---- all sets, least first: fewest members, then fewest role principals, then smallest set number. `count` says how many members of a
+-- set are role principals
 
 -- all sets of k principals below n, by rising number: those without n - 1, then those with it
 abbrev pub sets : ℕ → ℕ → List ℕ
@@ -59,13 +74,18 @@ sets zero (suc k) = []
 sets (suc n) zero = 0 ∷ []
 sets (suc n) (suc k) = sets n (suc k) ++ map (λ c. c + 2 ^ n) (sets n k)
 
--- all sets of fewer than k principals below n, by size
-abbrev pub bySize : ℕ → ℕ → List ℕ
-bySize n zero = []
-bySize n (suc k) = bySize n k ++ sets n k
+-- the sets of a list that have fewer than j role principals: those with none, then those with one, and so on
+abbrev pub byRoleCount : (ℕ → ℕ) → List ℕ → ℕ → List ℕ
+byRoleCount count l zero = []
+byRoleCount count l (suc j) = byRoleCount count l j ++ those (λ c. eqb (count c) j) l
 
-unfoldable pub allSets : ℕ → List ℕ
-allSets n = bySize n (suc n)
+-- all sets of fewer than k principals below n, by size
+abbrev pub bySize : (ℕ → ℕ) → ℕ → ℕ → List ℕ
+bySize count n zero = []
+bySize count n (suc k) = bySize count n k ++ byRoleCount count (sets n k) (suc k)
+
+unfoldable pub allSets : (ℕ → ℕ) → ℕ → List ℕ
+allSets count n = bySize count n (suc n)
 
 -- the first element that passes
 abbrev pub firstOf : (ℕ → Bool) → List ℕ → Option ℕ
@@ -74,7 +94,7 @@ firstOf p (x ∷ l) = cond (p x) (some x) (firstOf p l)
 
 -- the consistent sets that meet the guard of m, from all principals, least first
 unfoldable pub candidates : Record → ℕ → List ℕ
-candidates r m = those (λ c. consistent r c && meets r m (members r c)) (allSets (r .«principal_count»))
+candidates r m = those (λ c. consistent r c && meets r m (members r c)) (allSets (roleCount r) (r .«principal_count»))
 
 -- the least of them whose members all pass
 unfoldable pub least : Record → ℕ → (ℕ → Bool) → Option ℕ

@@ -6,6 +6,7 @@ pub mod Masked
 pub mod Predicates
 pub mod EnabledLaws
 pub mod MarkedSets
+pub mod RoleCountLaws
 pub mod OrderFact
 pub mod MaskLaws
 pub mod GuardLaws

@@ -18,12 +18,14 @@ use Rattle.search.specs.declared.Found.{Found}
 use Rattle.search.specs.declared.Found.the-variants.{Set, Nothing}
 use Rattle.search.specs.Answers.{FoundValues, granted, denied, foundValues}
 use Rattle.search.specs.Answers.GrantedOrDenied.{grants, denies}
-use Rattle.search.specs.Search.{Consistent, Given, Met, Candidate, Least}
-use Rattle.justification.specs.Justification.{members, meets, consistent, least}
+use Rattle.search.specs.Search.{Consistent, Given, Met, Candidate, Before, roleCountIn, Least}
+use Rattle.search.specs.SearchLaws.{before-counts}
+use Rattle.justification.specs.Justification.{members, meets, consistent, roleCount, least}
 use Rattle.justification.specs.Satisfying.{IsConsistent, SomeHas, GuardMet}
 use Rattle.justification.specs.SatisfyingLaws.{of-members, consistent-says, guard-says, passes}
 use Rattle.justification.specs.Order.{IsLeast}
 use Rattle.justification.specs.Masked.{Masked, leastValues}
+use Rattle.justification.specs.RoleCountLaws.{role-count}
 use Rattle.justification.specs.OrderFact.{only-least, least-is}
 
 -- ---- the masks of a record, and a set c of its principals
@@ -119,15 +121,26 @@ least-masked r m a s k {v} h = go h
     among : ℕ → Bool
     among p = member p a
 
-    is-least : (o : Option ℕ) → IsLeast (r .«principal_count») (passes r m among) o → leastValues o ≡ leastValues (least r m among)
-    is-least o f = ap leastValues (only-least (r .«principal_count») (passes r m among) o (least r m among) f (least-is r m among))
+    is-least : (o : Option ℕ) → IsLeast (roleCount r) (r .«principal_count») (passes r m among) o
+        → leastValues o ≡ leastValues (least r m among)
+    is-least o f =
+        ap leastValues (only-least (roleCount r) (r .«principal_count») (passes r m among) o (least r m among) f (least-is r m among))
+
+    -- the masks and the record order sets alike
+    same-order : {x y : ℕ} → x < 2 ^ (r .«principal_count») → y < 2 ^ (r .«principal_count») → Before (roleCountIn s) x y
+        → Before (roleCount r) x y
+    same-order {x} {y} l b f =
+        before-counts (roleCountIn s) (roleCount r) (role-count r x l (k .rolePrincipals)) (role-count r y b (k .rolePrincipals)) f
 
     go : Least s v → v ≡ leastValues (least r m (λ p. member p a))
     go (grants c q x) =
         let l = subst (λ (n : ℕ). c < 2 ^ n) (k .count) (x .candidate .inside) in
         q
-        ∙ is-least (some c)
-        (l, candidate-passes r m a s k c l .0 (x .candidate), λ y b t. x .first y (candidate-passes r m a s k y b .1 t))
+        ∙ is-least (some c) (
+          l,
+          candidate-passes r m a s k c l .0 (x .candidate),
+          λ y b t. same-order l b (x .first y (candidate-passes r m a s k y b .1 t)),
+        )
     go (denies q x) = q ∙ is-least none (λ y b t. x y (candidate-passes r m a s k y b .1 t))
 
 -- and say which set that is, or that there is none

@@ -1,5 +1,6 @@
--- The order fact: of the sets that pass, `firstOf` over `allSets` finds the one with fewest members and, of those, the smallest number.
-use Prim.Native.Nat.{ℕ, zero, suc, _+_, _-_, _*_, _/_, _^_, _≤_, _<_}
+-- The order fact: of the sets that pass, `firstOf` over `allSets` finds the one with fewest members; of those, with fewest role principals;
+-- and of those, with the smallest number.
+use Prim.Native.Nat.{ℕ, zero, suc, _+_, _-_, _*_, _/_, _%_, _^_, _≤_, _<_}
 use mathlib.Core.Path.{_≡_, refl, sym, _∙_, ap, subst}
 use mathlib.Core.Logic.{_⊎_, inl, inr, ⊎-elim}
 use mathlib.Core.Bool.{Bool, true, false, false≢true, cond, _&&_}
@@ -8,14 +9,19 @@ use mathlib.Core.Option.{Option, none, some}
 use native.Mathlib.Omega.{arith}
 use native.Mathlib.Decide.{decLt}
 use native.Mathlib.Nat.{add-comm}
+use borrow.Author.Tests.{eqb-true, eq-eqb}
+use lib.Dec.{eqb}
 use lib.Pow.{pow-pos}
 use lib.Count.{ones, ones-le}
+use Rattle.common.specs.BoolLaws.{and-cases, and-both}
 use Rattle.common.specs.CountLaws.{ones-zero, no-ones, ones-top, power-double}
 use Rattle.common.specs.Lists.{every, those}
 use Rattle.policy.specs.declared.Record.{Record}
 use Rattle.search.specs.Search.{Before}
-use Rattle.search.specs.SearchLaws.{before-fewer, before-size, before-antisym}
-use Rattle.justification.specs.Justification.{members, meets, consistent, sets, bySize, allSets, firstOf, candidates, least}
+use Rattle.search.specs.Search.Before.{by-members, by-role-count, by-number}
+use Rattle.search.specs.SearchLaws.{before-antisym}
+use Rattle.justification.specs.Justification.{members, meets, consistent, roleCount, sets, byRoleCount, bySize, allSets, firstOf, candidates, least}
+use Rattle.justification.specs.RoleCountLaws.{role-few}
 use Rattle.justification.specs.Order.{IsLeast}
 
 -- ---- `firstOf` of a list in two parts, of a mapped list, of a list that was sifted
@@ -116,61 +122,130 @@ of-size (suc n) (suc k) p =
     (both n k p (firstOf p (sets n (suc k))) (firstOf (λ x. p (x + 2 ^ n)) (sets n k)) (of-size n (suc k) p)
     (of-size n k (λ x. p (x + 2 ^ n))))
 
--- ---- the sets of every size below k
-abbrev LeastUpTo : ℕ → ℕ → (ℕ → Bool) → Option ℕ → Type 0
-LeastUpTo n k p none = (y : ℕ) → y < 2 ^ n → ones y < k → p y ≡ true → ⊥
-LeastUpTo n k p (some c) = (c < 2 ^ n) × (ones c < k) × (p c ≡ true) × ((y : ℕ) → y < 2 ^ n → ones y < k → p y ≡ true → Before c y)
-
 smaller : (a k : ℕ) → a < suc k → (a < k) ⊎ (a ≡ k)
 smaller a k l = elim (decLt a k) [ yes h ↦ inl h | no f ↦ inr (omega arith) ]
 
-next : (n k : ℕ) (p : ℕ → Bool) (a b : Option ℕ) → LeastUpTo n k p a → LeastOf n k p b → LeastUpTo n (suc k) p (orElse a b)
-next n k p (some c) b f g =
-    let q = f .1 in
-    (f .0, omega arith, f .2, λ y l o t. ⊎-elim (λ h. f .3 y l h t) (λ h. before-fewer (omega arith)) (smaller (ones y) k o))
-next n k p none (some c) f g =
-    let q = g .1 in (
-      g .0,
-      omega arith,
-      g .2,
-      λ y l o t. ⊎-elim (λ h. absurd (f y l h t)) (λ h. before-size (q ∙ sym h) (g .3 y l h t))
-          (smaller (ones y) k o),
-    )
-next n k p none none f g = λ y l o t. ⊎-elim (λ h. f y l h t) (λ h. g y l h t) (smaller (ones y) k o)
+-- ---- where `count` says how many members of a set are role principals
+module _ (count : ℕ → ℕ) where
+  -- ---- the sets of one size that have fewer than j of these
+  abbrev LeastByRoleCount : ℕ → ℕ → ℕ → (ℕ → Bool) → Option ℕ → Type 0
+  LeastByRoleCount n k j p none = (y : ℕ) → y < 2 ^ n → ones y ≡ k → count y < j → p y ≡ true → ⊥
+  LeastByRoleCount n k j p (some c) =
+      (c < 2 ^ n) × (ones c ≡ k) × (count c < j) × (p c ≡ true)
+      × ((y : ℕ) → y < 2 ^ n → ones y ≡ k → count y < j → p y ≡ true → Before count c y)
 
-up-to : (n k : ℕ) (p : ℕ → Bool) → LeastUpTo n k p (firstOf p (bySize n k))
-up-to n zero p = λ y l o t. omega arith
-up-to n (suc k) p =
-    subst (LeastUpTo n (suc k) p) (sym (first-append p (bySize n k) (sets n k)))
-    (next n k p (firstOf p (bySize n k)) (firstOf p (sets n k)) (up-to n k p) (of-size n k p))
+  -- with j of them, and passing
+  abbrev having : ℕ → (ℕ → Bool) → ℕ → Bool
+  having j p c = eqb (count c) j && p c
 
-whole : (n : ℕ) (p : ℕ → Bool) (o : Option ℕ) → LeastUpTo n (suc n) p o → IsLeast n p o
-whole n p none f = λ y l t. let h = ones-le n y l in f y l (omega arith) t
-whole n p (some c) f = (f .0, f .2, λ y l t. let h = ones-le n y l in f .3 y l (omega arith) t)
+  has-both : (j : ℕ) (p : ℕ → Bool) (y : ℕ) → count y ≡ j → p y ≡ true → having j p y ≡ true
+  has-both j p y e t = and-both (eqb (count y) j) (p y) (eq-eqb (count y) j e) t
 
--- THE ORDER FACT
-pub first-is-least : (n : ℕ) (p : ℕ → Bool) → IsLeast n p (firstOf p (allSets n))
-unfolding allSets
-first-is-least n p = whole n p (firstOf p (bySize n (suc n))) (up-to n (suc n) p)
+  next-role-count : (n k j : ℕ) (p : ℕ → Bool) (a b : Option ℕ) → LeastByRoleCount n k j p a → LeastOf n k (having j p) b
+      → LeastByRoleCount n k (suc j) p (orElse a b)
+  next-role-count n k j p (some c) b f g =
+      let q = f .2 in (
+        f .0,
+        f .1,
+        omega arith,
+        f .3,
+        λ y l o u t. ⊎-elim
+            (λ h. f .4 y l o h t)
+            (λ h. by-role-count (f .1 ∙ sym o) (omega arith))
+            (smaller (count y) j u),
+      )
+  next-role-count n k j p none (some c) f g =
+      let (x, t) = and-cases (eqb (count c) j) (p c) (g .2) in
+      let e = eqb-true (count c) j x in (
+        g .0,
+        g .1,
+        omega arith,
+        t,
+        λ y l o u v. ⊎-elim
+            (λ h. absurd (f y l o h v))
+            (λ h. by-number (g .1 ∙ sym o) (e ∙ sym h) (g .3 y l o (has-both j p y h v)))
+            (smaller (count y) j u),
+      )
+  next-role-count n k j p none none f g = λ y l o u t. ⊎-elim
+      (λ h. f y l o h t)
+      (λ h. g y l o (has-both j p y h t))
+      (smaller (count y) j u)
 
--- ---- there is only one least
+  of-role-count : (n k j : ℕ) (p : ℕ → Bool) → LeastByRoleCount n k j p (firstOf p (byRoleCount count (sets n k) j))
+  of-role-count n k zero p = λ y l o u t. omega arith
+  of-role-count n k (suc j) p =
+      subst (LeastByRoleCount n k (suc j) p)
+      (sym (first-append p (byRoleCount count (sets n k) j) (those (λ c. eqb (count c) j) (sets n k))
+      ∙ ap (orElse (firstOf p (byRoleCount count (sets n k) j))) (first-those p (λ c. eqb (count c) j) (sets n k))))
+      (next-role-count n k j p (firstOf p (byRoleCount count (sets n k) j)) (firstOf (having j p) (sets n k)) (of-role-count n k j p)
+      (of-size n k (having j p)))
 
-pub only-least : (n : ℕ) (p : ℕ → Bool) (a b : Option ℕ) → IsLeast n p a → IsLeast n p b → a ≡ b
-only-least n p none none f g = refl
-only-least n p none (some b) f g = absurd (f b (g .0) (g .1))
-only-least n p (some a) none f g = absurd (g a (f .0) (f .1))
-only-least n p (some a) (some b) f g = ap some (before-antisym (f .2 b (g .0) (g .1)) (g .2 a (f .0) (f .1)))
+  -- ---- the sets of every size below k
+  abbrev LeastUpTo : ℕ → ℕ → (ℕ → Bool) → Option ℕ → Type 0
+  LeastUpTo n k p none = (y : ℕ) → y < 2 ^ n → ones y < k → p y ≡ true → ⊥
+  LeastUpTo n k p (some c) =
+      (c < 2 ^ n) × (ones c < k) × (p c ≡ true) × ((y : ℕ) → y < 2 ^ n → ones y < k → p y ≡ true → Before count c y)
 
--- tests that agree on every set of principals below n have the same least
-pub least-passes : (n : ℕ) (p q : ℕ → Bool) (o : Option ℕ) → ((y : ℕ) → y < 2 ^ n → p y ≡ q y) → IsLeast n p o → IsLeast n q o
-least-passes n p q none h f = λ y l t. f y l (h y l ∙ t)
-least-passes n p q (some c) h f = (f .0, sym (h c (f .0)) ∙ f .1, λ y l t. f .2 y l (h y l ∙ t))
+  -- no set of principals below n has more role principals than members
+  module _ (n : ℕ) (few : (y : ℕ) → y < 2 ^ n → count y ≤ ones y) where
+    next : (k : ℕ) (p : ℕ → Bool) (a b : Option ℕ) → LeastUpTo n k p a → LeastByRoleCount n k (suc k) p b
+        → LeastUpTo n (suc k) p (orElse a b)
+    next k p (some c) b f g =
+        let q = f .1 in
+        (f .0, omega arith, f .2, λ y l o t. ⊎-elim (λ h. f .3 y l h t) (λ h. by-members (omega arith)) (smaller (ones y) k o))
+    next k p none (some c) f g =
+        let q = g .1 in (
+          g .0,
+          omega arith,
+          g .3,
+          λ y l o t. ⊎-elim (λ h. absurd (f y l h t)) (λ h. g .4 y l h (omega (arith, few y l)) t)
+              (smaller (ones y) k o),
+        )
+    next k p none none f g = λ y l o t. ⊎-elim (λ h. f y l h t) (λ h. g y l h (omega (arith, few y l)) t) (smaller (ones y) k o)
+
+    up-to : (k : ℕ) (p : ℕ → Bool) → LeastUpTo n k p (firstOf p (bySize count n k))
+    up-to zero p = λ y l o t. omega arith
+    up-to (suc k) p =
+        subst (LeastUpTo n (suc k) p) (sym (first-append p (bySize count n k) (byRoleCount count (sets n k) (suc k))))
+        (next k p (firstOf p (bySize count n k)) (firstOf p (byRoleCount count (sets n k) (suc k))) (up-to k p) (of-role-count n k (suc k) p))
+
+    whole : (p : ℕ → Bool) (o : Option ℕ) → LeastUpTo n (suc n) p o → IsLeast count n p o
+    whole p none f = λ y l t. let h = ones-le n y l in f y l (omega arith) t
+    whole p (some c) f = (f .0, f .2, λ y l t. let h = ones-le n y l in f .3 y l (omega arith) t)
+
+    -- THE ORDER FACT
+    pub first-is-least : (p : ℕ → Bool) → IsLeast count n p (firstOf p (allSets count n))
+    unfolding allSets
+    first-is-least p = whole p (firstOf p (bySize count n (suc n))) (up-to (suc n) p)
+
+  -- ---- there is only one least
+
+  pub only-least : (n : ℕ) (p : ℕ → Bool) (a b : Option ℕ) → IsLeast count n p a → IsLeast count n p b → a ≡ b
+  only-least n p none none f g = refl
+  only-least n p none (some b) f g = absurd (f b (g .0) (g .1))
+  only-least n p (some a) none f g = absurd (g a (f .0) (f .1))
+  only-least n p (some a) (some b) f g = ap some (before-antisym (f .2 b (g .0) (g .1)) (g .2 a (f .0) (f .1)))
+
+  -- tests that agree on every set of principals below n have the same least
+  pub least-passes : (n : ℕ) (p q : ℕ → Bool) (o : Option ℕ) → ((y : ℕ) → y < 2 ^ n → p y ≡ q y) → IsLeast count n p o
+      → IsLeast count n q o
+  least-passes n p q none h f = λ y l t. f y l (h y l ∙ t)
+  least-passes n p q (some c) h f = (f .0, sym (h c (f .0)) ∙ f .1, λ y l t. f .2 y l (h y l ∙ t))
 
 -- `least` is the least
 pub least-is : (r : Record) (m : ℕ) (passes : ℕ → Bool)
-    → IsLeast (r .«principal_count») (λ c. (consistent r c && meets r m (members r c)) && every passes (members r c)) (least r m passes)
+    → IsLeast (roleCount r) (r .«principal_count») (λ c. (consistent r c && meets r m (members r c)) && every passes (members r c))
+    (least r m passes)
 unfolding least candidates
 least-is r m passes =
-    subst (IsLeast (r .«principal_count») (λ c. (consistent r c && meets r m (members r c)) && every passes (members r c)))
-    (sym (first-those (λ c. every passes (members r c)) (λ c. consistent r c && meets r m (members r c)) (allSets (r .«principal_count»))))
-    (first-is-least (r .«principal_count») (λ c. (consistent r c && meets r m (members r c)) && every passes (members r c)))
+    subst
+    (IsLeast (roleCount r) (r .«principal_count») (λ c. (consistent r c && meets r m (members r c)) && every passes (members r c)))
+    (sym (first-those (λ c. every passes (members r c)) (λ c. consistent r c && meets r m (members r c))
+    (allSets (roleCount r) (r .«principal_count»))))
+    (first-is-least (roleCount r) (r .«principal_count») (role-few r)
+    (λ c. (consistent r c && meets r m (members r c)) && every passes (members r c)))
+
+-- of two principals, of which 0 is a role principal: none, 1 alone, 0 alone, both
+pub role-last : allSets (λ c. c % 2) 2 ≡ 0 ∷ 2 ∷ 1 ∷ 3 ∷ []
+unfolding allSets
+role-last = refl

@@ -1,4 +1,4 @@
-// Grounds and guards: what each principal excludes, needs and gives; who may put a question.
+// Grounds and guards: what each principal excludes, needs and gives, and whether it is a role principal; who may put a question.
 
 ghost use mathlib.Core.Path.{_≡_};
 ghost use mathlib.Core.Bool.{true, false, cond};
@@ -7,24 +7,28 @@ ghost use mathlib.Core.List.{[]};
 ghost use Prim.Native.Nat.{ℕ, _^_, _≤_, _<_};
 ghost use lib.Bits.{bitOr};
 ghost use lib.ListN.{getD};
-ghost use Rattle.common.specs.Limits.{mostUsers, mostDemarcations, mostPrincipals, mostExclusions, privilegeCount};
+ghost use Rattle.common.specs.Limits.{mostUsers, mostFormulas, mostDemarcations, mostPrincipals, mostExclusions, privilegeCount};
 ghost use Rattle.common.specs.Lists.{at};
 ghost use Rattle.common.specs.Sets.{In};
 ghost use Rattle.closure.specs.Closure.{pairsOf, reaches};
 ghost use Rattle.tables.specs.Loads.{pairsLoad};
 ghost use Rattle.policy.specs.declared.Record as records;
-ghost use Rattle.justification.specs.Justification.{hasBelow};
+ghost use Rattle.justification.specs.Justification.{hasBelow, isRolePrincipalIn};
 ghost use Rattle.justification.specs.Satisfying.{AmongPairs};
 ghost use Rattle.justification.specs.Masked.{Masked, MasksFit, groundsIn, groundsOf};
 ghost use Rattle.justification.specs.Predicates.{isUserIn, refusalOf};
 ghost use Rattle.justification.specs.MarkedSets.{Marks};
 use common::MOST_DEMARCATIONS;
 use common::MOST_EXCLUSIONS;
+use common::MOST_FORMULAS;
 use common::MOST_METHODS;
 use common::MOST_PAIRS;
 use common::MOST_PRINCIPALS;
 use common::MOST_USERS;
 use search::Masks;
+
+// The op of a formula that asks for a role.
+const ROLE_OP: u8 = 3;
 
 // A question names method, object, requestor.
 pub struct Question {
@@ -179,16 +183,40 @@ fn excludes_of<'a>(
     sets
 }
 
+// ---- role principals
+
+// The role principals, of so many, whose formulas are lent, and the formulas' ops.
+fn role_principals<'a>(
+    ops: &'a [u8; MOST_FORMULAS],
+    count: usize,
+    formulas: &'a [u8; MOST_PRINCIPALS],
+) -> u32
+    requires { ⌜ (count ≤ mostPrincipals) × ((p : ℕ) → p < count → at (now formulas) p < mostFormulas) ⌝ }
+    ensures { λ r. ⌜ Marks count (isRolePrincipalIn (now (ops .entry)) (now (formulas .entry))) r ⌝ }
+{
+    let mut s: u32 = 0;
+    let mut p: usize = 0;
+    while p < count {
+        let f = index(formulas[p]);
+        let more = marked(s, p, ops[f] == ROLE_OP);
+        s = more;
+        p += 1;
+    }
+    s
+}
+
 // ---- the masks of a record
 
 // What the search needs of a record, for a method and the principals that are allowed. The record's columns are lent.
 pub fn masks_of<'a>(
+    ops: &'a [u8; MOST_FORMULAS],
     demarcations: usize,
     lists: &'a [u64; MOST_DEMARCATIONS],
     ranks: usize,
     inferiors: &'a [u8; MOST_PAIRS],
     superiors: &'a [u8; MOST_PAIRS],
     principals: usize,
+    formulas: &'a [u8; MOST_PRINCIPALS],
     held: &'a [u8; MOST_PRINCIPALS],
     exclusions: usize,
     lows: &'a [u8; MOST_EXCLUSIONS],
@@ -201,10 +229,10 @@ pub fn masks_of<'a>(
     method: usize,
     allowed: u32,
 ) -> Masks
-    requires { ⌜ MasksFit (groundsIn demarcations (now lists) ranks (now inferiors) (now superiors) principals (now held)
-        exclusions (now lows) (now highs) links (now prerequisites) (now dependents) (now forms) (now guards)) method ⌝ }
-    ensures { λ r. ⌜ ((rules : records.Record) → groundsIn demarcations (now (lists .entry))
-        ranks (now (inferiors .entry)) (now (superiors .entry)) principals (now (held .entry))
+    requires { ⌜ MasksFit (groundsIn (now ops) demarcations (now lists) ranks (now inferiors) (now superiors)
+        principals (now formulas) (now held) exclusions (now lows) (now highs) links (now prerequisites) (now dependents) (now forms) (now guards)) method ⌝ }
+    ensures { λ r. ⌜ ((rules : records.Record) → groundsIn (now (ops .entry)) demarcations (now (lists .entry))
+        ranks (now (inferiors .entry)) (now (superiors .entry)) principals (now (formulas .entry)) (now (held .entry))
         exclusions (now (lows .entry)) (now (highs .entry)) links (now (prerequisites .entry)) (now (dependents .entry))
         (now (forms .entry)) (now (guards .entry)) ≡ groundsOf rules → Masked rules method allowed r) ⌝ }
 {
@@ -219,6 +247,7 @@ pub fn masks_of<'a>(
         principals,
         held,
     );
+    let roles = role_principals(ops, principals, formulas);
     let wanted = listed(guards[method]);
     Masks {
         count: principals,
@@ -226,6 +255,7 @@ pub fn masks_of<'a>(
         excludes: excludes,
         needs: needs,
         grants: grants,
+        role_principals: roles,
         every: forms[method] != 0,
         wanted: wanted,
     }

@@ -1,5 +1,5 @@
 -- The memo: its pair, one evaluation, and how many formulas are newly known.
-use Prim.Native.Nat.{ℕ, suc, _+_, _≤_}
+use Prim.Native.Nat.{ℕ, _+_, _≤_}
 use mathlib.Core.Path.{_≡_, refl, sym, _∙_, ap}
 use mathlib.Core.Logic.{_≢_}
 use mathlib.Core.Bool.{Bool, true, false, not, cond, _&&_}
@@ -7,7 +7,7 @@ use mathlib.Core.List.{List, [], _∷_, _++_}
 use native.Mathlib.Omega.{arith}
 use native.Mathlib.Numerals.{add-one}
 use lib.Dec.{eqb}
-use lib.ListN.{length, length-append}
+use lib.ListN.{length}
 use borrow.Author.Tests.{eq-eqb, ne-eqb}
 use Rattle.common.specs.Limits.{mostFormulas}
 use Rattle.common.specs.Lists.{those, below}
@@ -16,6 +16,7 @@ use Rattle.policy.specs.declared.Memo.{Memo}
 use Rattle.policy.specs.Table.{emptied}
 use Rattle.policy.specs.declared.Record.{Record}
 use Rattle.justification.specs.declared.Question.{Question}
+use Rattle.common.specs.ListLaws.{those-more}
 use Rattle.memo.specs.Memo.{known, noted, evaluated}
 use Rattle.memo.specs.Walk.{formulaOf, evaluatedAll}
 use Rattle.memo.specs.Memo.{memoFor, newly}
@@ -42,25 +43,6 @@ module _ (truth : ℕ → Bool) (m : Memo) (f : ℕ) where
   unfolding evaluated
   now-known e {v} d = ap (noted m f) d ∙ rw e refl
 
-those-append : (p : ℕ → Bool) (l m : List ℕ) → those p (l ++ m) ≡ those p l ++ those p m
-those-append p [] m = refl
-those-append p (x ∷ l) m = go (p x) (those-append p l m)
-  where
-    go : (b : Bool) → those p (l ++ m) ≡ those p l ++ those p m
-        → cond b (x ∷ those p (l ++ m)) (those p (l ++ m)) ≡ cond b (x ∷ those p l) (those p l) ++ those p m
-    go true e = ap (λ (t : List ℕ). x ∷ t) e
-    go false e = e
-
-counted : (p : ℕ → Bool) (n : ℕ) → length (those p (below (suc n))) ≡ length (those p (below n)) + cond (p n) 1 0
-counted p n =
-    ap length (those-append p (below n) (n ∷ []))
-    ∙ length-append (those p (below n)) (those p (n ∷ []))
-    ∙ ap (λ (k : ℕ). length (those p (below n)) + k) (go (p n))
-  where
-    go : (b : Bool) → length (cond b (n ∷ []) []) ≡ cond b 1 0
-    go true = refl
-    go false = refl
-
 module _ (before after : Memo) where
   -- the formulas below f that are newly known
   pub record Counted (count f : ℕ) : Type 0 where
@@ -76,7 +58,7 @@ module _ (before after : Memo) where
       record {
         is =
             (λ i. h .is i + e i)
-            ∙ sym (counted (λ g. known after g && not (known before g)) f)
+            ∙ sym (those-more (λ g. known after g && not (known before g)) f)
             ∙ ap (λ (n : ℕ). length (those (λ g. known after g && not (known before g)) (below n))) (sym (add-one f));
         few = omega (arith, h .few);
       }

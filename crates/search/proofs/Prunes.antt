@@ -5,21 +5,22 @@ use mathlib.Core.Logic.{⊎-elim}
 use Prim.Native.Nat.{ℕ, suc, _+_, _-_, _*_, _/_, _%_, _^_, _≤_, _<_, zero-le}
 use native.Mathlib.Nat.{eq-or-lt-of-le}
 use native.Mathlib.Omega.{arith}
-use lib.Arith.{bin-ind}
 use lib.Pow.{pow-pos, shr-shr}
-use lib.Bits.{bitAnd, bitOr, and-comm, and-step}
-use lib.Count.{ones, ones-step, ones-cat, ones-le}
-use Rattle.common.specs.Limits.{mostPrincipals}
+use lib.Bits.{bitAnd, bitOr, and-comm}
+use lib.Count.{ones, ones-cat, ones-le}
 use Rattle.common.specs.Lists.{at}
 use Rattle.common.specs.Sets.{In, Apart, Within}
-use Rattle.common.specs.SetLaws.{le-or-lt, in-or-out, none-in-zero, some-in, and-in-l, within-and, or-in}
+use Rattle.common.specs.SetLaws.{le-or-lt, in-or-out, none-in-zero, some-in, in-and, and-in-l, and-in-r, within-and, or-in}
 use Rattle.common.specs.SetLaws.{in-lt, in-ge, in-pow, pow-in, in-sum-l, in-sum-r, sum-in}
 use Rattle.search.specs.declared.Masks.{Masks}
-use Rattle.search.specs.Search.{Met, NoCandidate}
-use Rattle.search.specs.Steps.{MetBy, ConflictFree, NoneHolds, Gives, Asks, NoneFrom}
-use Rattle.search.specs.Steps.{NeededBy, WithinFrom, Joins, State, NoCompletion}
+use Rattle.search.specs.declared.Limit.{Limit}
+use Rattle.search.specs.Search.{Candidate, Met, NoCandidate, roleCountIn}
+use Rattle.search.specs.Steps.{MetBy, Gathers, ConflictFree, NoneHolds, Gives, Asks, NoneFrom}
+use Rattle.search.specs.Steps.{NeededBy, WithinFrom, Joins, State, NoCompletion, NoneOfSize}
 use Rattle.common.specs.CountLaws.{ones-zero}
-use Rattle.search.proofs.Steps.{«with», top-small}
+use Rattle.search.proofs.Counts.{ones-and, same-members, role-count-zero, role-count-cat}
+use Rattle.search.proofs.Sums.{met-by}
+use Rattle.search.proofs.Steps.{NoneWith, «with», top-small}
 
 -- ---- the members from n on
 
@@ -41,19 +42,26 @@ shift-from n a b f q i = shift-in n b (f .from (n + q) (omega arith) (in-shift n
 
 -- ---- a set that no candidate holds
 
--- a part has no more members than the whole
-ones-and : (a b : ℕ) → ones (bitAnd a b) ≤ ones a
-ones-and = bin-ind (λ (n : ℕ). (b : ℕ) → ones (bitAnd n b) ≤ ones n) (λ b. omega arith) (λ n ih b.
-    let h = ih (b / 2) in
-    let e : bitAnd n b / 2 ≡ bitAnd (n / 2) (b / 2) = omega (arith, and-step n b) in
-    omega (arith, ones-step (bitAnd n b), ones-step n, ap ones e, and-step n b))
-
 within-ones : (a b : ℕ) → Within a b → ones a ≤ ones b
 within-ones a b f = subst (λ (z : ℕ). ones z ≤ ones b) (and-comm b a ∙ within-and a b f) (ones-and b a)
 
-module _ {r : Masks} {limit s b : ℕ} where
-  pub too-large : limit < ones s → NoneHolds r limit s b
+within-role-count : (r : Masks) (a b : ℕ) → Within a b → roleCountIn r a ≤ roleCountIn r b
+within-role-count r a b f =
+    within-ones (bitAnd a (r .«role_principals»)) (bitAnd b (r .«role_principals»)) (λ q i. in-and (f q (and-in-l a (r .«role_principals») i)) (and-in-r a (r .«role_principals») i))
+
+module _ {r : Masks} {limit : Limit} {s b : ℕ} where
+  pub too-large : limit .members < ones s → NoneHolds r limit s b
   too-large l t h = omega (arith, h .few, within-ones s t (h .held))
+
+  pub too-many : limit .«role_principals» < roleCountIn r s → NoneHolds r limit s b
+  too-many l t h = omega (arith, h .fewRoles, within-role-count r s t (h .held))
+
+  -- what s gives does not meet the guard, and there is no room for more
+  pub no-room : {g : ℕ} → Gathers (r .count) s (r .grants) g → (MetBy (r .every) (r .wanted) g → ⊥) → limit .members ≤ ones s
+      → NoneHolds r limit s b
+  no-room f unmet l t h =
+      let e : s ≡ t = same-members s t (h .held) (omega (arith, h .few)) in
+      unmet (met-by r f (r .every) (rw e (h .candidate .inside)) (rw e (h .candidate .met)))
 
   pub not-apart : (Apart s b → ⊥) → NoneHolds r limit s b
   not-apart f t h = f (λ q i j. h .apart q (h .held q i) j)
@@ -93,6 +101,7 @@ module _ {r : Masks} {limit s b : ℕ} where
       (λ j. f t (record {
         candidate = h .candidate;
         few = h .few;
+        fewRoles = h .fewRoles;
         held = λ v k. ⊎-elim
             (λ y. ⊎-elim (λ z. h .held v z) (λ z. subst (λ (w : ℕ). In w t) (sym (pow-in p z)) j) (or-in s (2 ^ p) y))
             (λ y. h .candidate .consistent p j .whole v y)
@@ -104,6 +113,7 @@ module _ {r : Masks} {limit s b : ℕ} where
       n t (record {
         candidate = h .candidate;
         few = h .few;
+        fewRoles = h .fewRoles;
         held = h .held;
         apart = λ v k y. ⊎-elim (λ z. h .apart v k z) (λ z. out v k (pow-in p z)) (or-in b (2 ^ p) y);
       }) q (⊎-elim (λ e. absurd (out q i (sym e))) (λ u. omega arith) (eq-or-lt-of-le l)) i g)
@@ -143,29 +153,41 @@ module _ {r : Masks} {n c b : ℕ} (s : State r n c b) where
         ones-zero,
       )
 
-  -- no candidate of that size holds what is chosen and needed
-  pub not-feasible : {k w limit : ℕ} → NeededBy r c w → limit ≡ ones c + k → NoneHolds r limit (bitOr c w) b → NoCompletion r n k c
-  not-feasible {k} {w} h e f = record {
-    none = λ y l o d.
+  role-count-sum : (y : ℕ) → y < 2 ^ n → roleCountIn r (c + y) ≡ roleCountIn r c + roleCountIn r y
+  role-count-sum y l =
+      let e : c ≡ s .head * 2 ^ n + 0 = omega (arith, s .above) in
+      omega (
+        arith,
+        ap (λ (z : ℕ). roleCountIn r (z + y)) (s .above) ∙ role-count-cat (r .«role_principals») n y l (s .head),
+        ap (roleCountIn r) e ∙ role-count-cat (r .«role_principals») n 0 (pow-pos n) (s .head),
+        role-count-zero (r .«role_principals»),
+      )
+
+  -- no candidate of that size, with that many role principals, holds what is chosen and needed
+  pub not-feasible : {k j w : ℕ} {limit : Limit} → NeededBy r c w → limit .members ≡ ones c + k → limit .«role_principals» ≡ roleCountIn r c + j
+      → NoneHolds r limit (bitOr c w) b → NoCompletion r n k j c
+  not-feasible {k} {j} {w} h e g f = record {
+    none = λ y l o p d.
         let keeps : Within c (c + y) = λ q i. in-sum-l (s .head) n (s .above) l i in
         f (c + y) (record {
           candidate = d;
           few = omega (arith, ones-sum y l);
+          fewRoles = omega (arith, role-count-sum y l);
           held = λ q i. ⊎-elim (λ x. keeps q x) (λ x. h .by (c + y) d keeps q x) (or-in c w i);
           apart = s .barred y l;
         });
   }
 
-  pub no-join : {k m : ℕ} → n ≡ suc m → (Joins r c m → ⊥) → NoCompletion r m k (c + 2 ^ m)
-  no-join {k} {m} e f = record {
-    none = λ y l o d.
+  pub no-join : {k j m : ℕ} → n ≡ suc m → (Joins r c m → ⊥) → NoneWith r m k j c
+  no-join {k} {j} {m} e f = record {
+    none = λ y l o p d.
         let w = «with» e s in
         let keeps : Within c (c + 2 ^ m + y) = λ q i. in-sum-l (w .head) m (w .above) l (in-sum-l (s .head) n (s .above) (top-small e) i) in
         let i = in-sum-l (w .head) m (w .above) l (in-sum-r (s .head) n (s .above) (top-small e) (in-pow m)) in
-        let p = d .consistent m i in
+        let v = d .consistent m i in
         f (record {
           allowed = d .allowed m i;
-          apart = λ q i j. p .apart q (keeps q i) j;
+          apart = λ q i j. v .apart q (keeps q i) j;
           whole = record {
             from = λ q u i. ⊎-elim
                 (λ j. ⊎-elim
@@ -173,15 +195,15 @@ module _ {r : Masks} {n c b : ℕ} (s : State r n c b) where
                 (λ j′. absurd (omega (arith, pow-in m j′)))
                 (sum-in (s .head) n (s .above) (top-small e) j))
                 (λ j. absurd (omega (arith, in-lt m j l)))
-                (sum-in (w .head) m (w .above) l (p .whole q i));
+                (sum-in (w .head) m (w .above) l (v .whole q i));
           };
         });
   }
 
   -- m is needed, and the sets below m lack it
-  pub needed-below : {k m w : ℕ} → n ≡ suc m → NeededBy r c w → In m w → NoCompletion r m k c
-  needed-below {k} {m} e h i = record {
-    none = λ y l o d.
+  pub needed-below : {k j m w : ℕ} → n ≡ suc m → NeededBy r c w → In m w → NoCompletion r m k j c
+  needed-below {k} {j} {m} e h i = record {
+    none = λ y l o p d.
         let l′ : y < 2 ^ n = omega (arith, top-small e) in
         ⊎-elim
         (λ x. omega (arith, in-ge (s .head) n (s .above) x))
@@ -197,11 +219,19 @@ module _ {r : Masks} {n c b : ℕ} (s : State r n c b) where
         (or-in w (at (r .needs) m) i);
   }
 
--- every candidate holds the empty set
-pub no-candidate : {r : Masks} → r .count ≤ mostPrincipals → NoneHolds r mostPrincipals 0 0 → NoCandidate r
-no-candidate {r} c f t d = f t (record {
-  candidate = d;
-  few = omega (arith, ones-le (r .count) t (d .inside));
-  held = λ q i. absurd (none-in-zero q i);
-  apart = λ q i j. none-in-zero q j;
-})
+-- every candidate holds the empty set; none is within that limit
+module _ {r : Masks} {limit : Limit} (f : NoneHolds r limit 0 0) where
+  none-within : (t : ℕ) → Candidate r t → ones t ≤ limit .members → limit .members ≤ limit .«role_principals» → ⊥
+  none-within t d l e = f t (record {
+    candidate = d;
+    few = l;
+    fewRoles = omega (arith, ones-and t (r .«role_principals»));
+    held = λ q i. absurd (none-in-zero q i);
+    apart = λ q i j. none-in-zero q j;
+  })
+
+  pub no-candidate : r .count ≤ limit .members → limit .members ≤ limit .«role_principals» → NoCandidate r
+  no-candidate c e t d = none-within t d (omega (arith, ones-le (r .count) t (d .inside))) e
+
+  pub none-of-size : {k : ℕ} → k ≤ limit .members → limit .members ≤ limit .«role_principals» → NoneOfSize r k
+  none-of-size l e = record { none = λ t d o. none-within t d (omega arith) e }

@@ -1,12 +1,12 @@
 -- What the least set of principals is, for the search: the constraints and privileges of each principal as sets, sets as numbers.
 -- `justification` says what these sets are for a record, and that the answer is then that of document 01.
-use Prim.Native.Nat.{ℕ, _^_, _<_}
+use Prim.Native.Nat.{ℕ, _^_, _≤_, _<_}
+use mathlib.Core.Path.{_≡_}
 use mathlib.Core.Bool.{Bool, true, false}
-use mathlib.Core.List.{List, [], _∷_}
+use lib.Bits.{bitAnd}
 use lib.Count.{ones}
 use Rattle.common.specs.Lists.{at}
 use Rattle.common.specs.Sets.{In, Apart, Within}
-use Rattle.common.specs.Order.{NotAfter}
 use Rattle.search.specs.declared.Masks.{Masks}
 use Rattle.search.specs.Answers.{FoundValues, GrantedOrDenied}
 
@@ -37,18 +37,22 @@ pub record Candidate (r : Masks) (s : ℕ) : Type 0 where
   pub consistent : Consistent r s
   pub met : Met (r .every) r s
 
--- the order of sets, by rank: "fewest members, then smallest set number"
-abbrev pub rank : ℕ → List ℕ
-rank s = ones s ∷ s ∷ []
+-- The order of sets: s comes before t, or is t. "Least: fewest members", and "Among satisfying sets with equally few members, the one with
+-- fewer role principals (formula of op 3) now comes first, and then the smaller set number" (2026-06). `roleCount` says how many members
+-- of a set are role principals.
+pub data Before (roleCount : ℕ → ℕ) (s t : ℕ) : Type 0 where
+  by-members : ones s < ones t → Before roleCount s t
+  by-role-count : ones s ≡ ones t → roleCount s < roleCount t → Before roleCount s t
+  by-number : ones s ≡ ones t → roleCount s ≡ roleCount t → s ≤ t → Before roleCount s t
 
--- s comes before t, or is t
-pub record Before (s t : ℕ) : Type 0 where
-  pub ranked : NotAfter (rank s) (rank t)
+-- how many members of s are role principals
+abbrev pub roleCountIn : Masks → ℕ → ℕ
+roleCountIn r s = ones (bitAnd s (r .«role_principals»))
 
 -- s is the least candidate; there is none
 pub record LeastCandidate (r : Masks) (s : ℕ) : Type 0 where
   pub candidate : Candidate r s
-  pub first : (t : ℕ) → Candidate r t → Before s t
+  pub first : (t : ℕ) → Candidate r t → Before (roleCountIn r) s t
 
 abbrev pub NoCandidate : Masks → Type 0
 NoCandidate r = (t : ℕ) → Candidate r t → ⊥

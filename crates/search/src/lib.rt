@@ -1,6 +1,7 @@
 // The least consistent set of principals that meets a guard. A set is a number: principal p is a member where bit p is set.
 //
-// Sets are gone through by size, and within a size by number: from the highest principal down, without it before with it.
+// Sets are gone through by size, within a size by how many role principals they have, and within these by number: from the highest
+// principal down, without it before with it.
 // What cannot be completed is not entered: `possible` looks for a set that can, by way of the givers of the wanted privilege
 // that has fewest of them, whatever their numbers. So a refusal costs no more than a grant.
 
@@ -13,9 +14,9 @@ ghost use Rattle.common.specs.Limits.{mostPrincipals, mostRelated};
 ghost use Rattle.common.specs.Lists.{at};
 ghost use Rattle.common.specs.Sets.{In, Apart, Within};
 ghost use Rattle.search.specs.Answers.{foundValues};
-ghost use Rattle.search.specs.Search.{ConsistentIn, Consistent, Met, Candidate, Least};
+ghost use Rattle.search.specs.Search.{ConsistentIn, Consistent, Met, Candidate, Least, roleCountIn};
 ghost use Rattle.search.specs.Steps.{Decides, MetBy, Gathers, ConflictFree, NoneHolds, Asks, NoneFrom, NeededBy};
-ghost use Rattle.search.specs.Steps.{WithinFrom, Joins, State, Completed};
+ghost use Rattle.search.specs.Steps.{WithinFrom, Joins, State, Completed, OfSize};
 use common::MOST_PRINCIPALS;
 use common::MOST_RELATED;
 
@@ -28,6 +29,8 @@ pub struct Masks {
     pub needs: [u32; MOST_PRINCIPALS],
     // The privileges that p has.
     pub grants: [u64; MOST_PRINCIPALS],
+    // The role principals.
+    pub role_principals: u32,
     // The guard: every wanted privilege, or at least one.
     pub every: bool,
     pub wanted: u64,
@@ -37,6 +40,12 @@ pub struct Masks {
 pub enum Found {
     Set(u32),
     Nothing,
+}
+
+// How many members a set may have, and how many role principals.
+struct Limit {
+    members: usize,
+    role_principals: usize,
 }
 
 // ---- sets
@@ -86,6 +95,22 @@ fn with(c: u32, m: usize) -> u32
     ensures { λ r. ⌜ r ≡ c + 2 ^ m ⌝ }
 {
     c + (1u32 << m)
+}
+
+// How many members of s are role principals.
+fn role_count(masks: Masks, s: u32) -> usize
+    ensures { λ r. ⌜ (r ≡ roleCountIn masks s) × (r ≤ 32) ⌝ }
+{
+    u32::count_ones(s & masks.role_principals) as usize
+}
+
+// How many role principals m is: 1 or 0.
+fn role_count_of(masks: Masks, m: usize) -> usize
+    requires { ⌜ m < mostPrincipals ⌝ }
+    ensures { λ r. ⌜ r ≡ roleCountIn masks (2 ^ m) ⌝ }
+{
+    let alone = with(0, m);
+    role_count(masks, alone)
 }
 
 // The set w with what m needs added.
@@ -215,13 +240,16 @@ fn allowed_together(masks: Masks, s: u32) -> bool
     true
 }
 
-// False only where no candidate of at most limit members holds s and none of barred: s is too large, barred, not allowed or in conflict.
-fn admissible(masks: Masks, limit: usize, s: u32, barred: u32) -> bool
+// False only where no candidate within the limit holds s and none of barred: s is too large, barred, not allowed or in conflict.
+fn admissible(masks: Masks, limit: Limit, s: u32, barred: u32) -> bool
     requires { ⌜ masks .count ≤ mostPrincipals ⌝ }
     ensures { λ r. ⌜ (r ≡ false → NoneHolds masks limit s barred) ⌝ }
 {
     let size = u32::count_ones(s) as usize;
-    if limit < size {
+    if limit.members < size {
+        return false;
+    }
+    if limit.role_principals < role_count(masks, s) {
         return false;
     }
     if !apart(s, barred) {
@@ -230,26 +258,33 @@ fn admissible(masks: Masks, limit: usize, s: u32, barred: u32) -> bool
     allowed_together(masks, s)
 }
 
-// Of the wanted privileges that are not granted, one that few principals can give: first one that none can, then one, then two.
-// Any answer will do.
+// Of the wanted privileges that are not granted, one that fewest principals can give; six of these count as many. Any answer will do.
 fn rarest(masks: Masks, chosen: u32, granted: u64, barred: u32) -> u64
     requires { ⌜ masks .count ≤ mostPrincipals ⌝ }
 {
     let unmet = masks.wanted & !granted;
     let free = masks.allowed & !barred;
     let count = masks.count;
-    let mut once: u64 = 0;
-    let mut twice: u64 = 0;
-    let mut thrice: u64 = 0;
+    // The privileges that have so many givers or more.
+    let mut one: u64 = 0;
+    let mut two: u64 = 0;
+    let mut three: u64 = 0;
+    let mut four: u64 = 0;
+    let mut five: u64 = 0;
+    let mut six: u64 = 0;
     let mut p: usize = 0;
     while p < count {
         let g = open_grants(free, chosen, masks.excludes[p], masks.grants[p], p);
-        thrice = thrice | (twice & g);
-        twice = twice | (once & g);
-        once = once | g;
+        six = six | (five & g);
+        five = five | (four & g);
+        four = four | (three & g);
+        three = three | (two & g);
+        two = two | (one & g);
+        one = one | g;
         p += 1;
     }
-    lowest(first_of(unmet & !once, unmet & !twice, unmet & !thrice, unmet))
+    let few = first_of(unmet & !one, unmet & !two, unmet & !three, unmet & !four);
+    lowest(first_of(few, unmet & !five, unmet & !six, unmet))
 }
 
 // What p gives, where p is free and excludes none of the chosen ones.
@@ -297,16 +332,16 @@ fn asked(masks: Masks, chosen: u32, granted: u64, barred: u32) -> u64
     masks.wanted
 }
 
-// False only where no candidate of at most limit members holds chosen, whose members give granted, and none of barred.
+// False only where no candidate within the limit holds chosen, whose members give granted, and none of barred.
 fn possible(
     masks: Masks,
-    limit: usize,
+    limit: Limit,
     depth: usize,
     chosen: u32,
     granted: u64,
     barred: u32,
 ) -> bool
-    requires { ⌜ masks .count ≤ mostPrincipals ⌝ }
+    requires { ⌜ (masks .count ≤ mostPrincipals) × Gathers (masks .count) chosen (masks .grants) granted ⌝ }
     ensures { λ r. ⌜ (r ≡ false → NoneHolds masks limit chosen barred) ⌝ }
 {
     if meets(masks.every, masks.wanted, granted) {
@@ -314,6 +349,10 @@ fn possible(
     }
     if masks.wanted == 0 {
         return masks.every;
+    }
+    let size = u32::count_ones(chosen) as usize;
+    if limit.members <= size {
+        return false;
     }
     if depth == 0 {
         return true;
@@ -341,7 +380,7 @@ fn next_giver(count: usize, grants: [u64; MOST_PRINCIPALS], x: u64, p: usize) ->
 // then, that one barred, with a later one.
 fn by_giver(
     masks: Masks,
-    limit: usize,
+    limit: Limit,
     depth: usize,
     chosen: u32,
     barred: u32,
@@ -366,8 +405,8 @@ fn by_giver(
     by_giver(masks, limit, depth, chosen, add(barred, g), x, g + 1)
 }
 
-// False only where no candidate of at most limit members holds s and none of barred.
-fn feasible(masks: Masks, limit: usize, s: u32, barred: u32) -> bool
+// False only where no candidate within the limit holds s and none of barred.
+fn feasible(masks: Masks, limit: Limit, s: u32, barred: u32) -> bool
     requires { ⌜ masks .count ≤ mostPrincipals ⌝ }
     ensures { λ r. ⌜ (r ≡ false → NoneHolds masks limit s barred) ⌝ }
 {
@@ -396,13 +435,35 @@ fn joins(masks: Masks, c: u32, m: usize) -> bool
     }
 }
 
-// The least candidate that is chosen and k more principals below n. Every candidate that holds the chosen ones holds those needed;
-// those barred have been passed by.
-fn search(masks: Masks, n: usize, k: usize, chosen: u32, needed: u32, barred: u32) -> Found
+// What the chosen ones come to with k more principals, j of them role principals.
+fn limit_with(masks: Masks, chosen: u32, k: usize, j: usize) -> Limit
+    requires { ⌜ (k ≤ mostPrincipals) × (j ≤ mostPrincipals) ⌝ }
+    ensures { λ r. ⌜ (r .members ≡ ones chosen + k) × (r .«role_principals» ≡ roleCountIn masks chosen + j) ⌝ }
+{
+    Limit {
+        members: (u32::count_ones(chosen) as usize) + k,
+        role_principals: role_count(masks, chosen) + j,
+    }
+}
+
+// The least candidate that is chosen and k more principals below n, j of them role principals. Every candidate that holds the chosen
+// ones holds those needed; those barred have been passed by.
+fn search(
+    masks: Masks,
+    n: usize,
+    k: usize,
+    j: usize,
+    chosen: u32,
+    needed: u32,
+    barred: u32,
+) -> Found
     requires { ⌜ State masks n chosen barred ⌝ }
     requires { ⌜ NeededBy masks chosen needed ⌝ }
-    ensures { λ r. ⌜ Completed masks n k chosen (foundValues r) ⌝ }
+    ensures { λ r. ⌜ Completed masks n k j chosen (foundValues r) ⌝ }
 {
+    if k < j {
+        return Found::Nothing;
+    }
     if k == 0 {
         if candidate(masks, chosen) {
             return Found::Set(chosen);
@@ -412,14 +473,14 @@ fn search(masks: Masks, n: usize, k: usize, chosen: u32, needed: u32, barred: u3
     if n < k {
         return Found::Nothing;
     }
-    let size = (u32::count_ones(chosen) as usize) + k;
-    if !feasible(masks, size, chosen | needed, barred) {
+    let limit = limit_with(masks, chosen, k, j);
+    if !feasible(masks, limit, chosen | needed, barred) {
         return Found::Nothing;
     }
     let m = n - 1;
     if !has(needed, m) {
         let passed = add(barred, m);
-        let without = search(masks, m, k, chosen, needed, passed);
+        let without = search(masks, m, k, j, chosen, needed, passed);
         if let Found::Set(s) = without {
             return Found::Set(s);
         }
@@ -427,9 +488,38 @@ fn search(masks: Masks, n: usize, k: usize, chosen: u32, needed: u32, barred: u3
     if !joins(masks, chosen, m) {
         return Found::Nothing;
     }
+    let added = role_count_of(masks, m);
+    if j < added {
+        return Found::Nothing;
+    }
     let grown = with(chosen, m);
     let wants = with_needs(masks, needed, m);
-    search(masks, m, k - 1, grown, wants, barred)
+    search(masks, m, k - 1, j - added, grown, wants, barred)
+}
+
+// The least candidate of k members: the fewest role principals first. Whether there is any is asked before, so that a size costs one
+// test where there is none.
+fn of_size(masks: Masks, k: usize) -> Found
+    requires { ⌜ (masks .count ≤ mostPrincipals) × (k ≤ mostPrincipals) ⌝ }
+    ensures { λ r. ⌜ OfSize masks k (foundValues r) ⌝ }
+{
+    let limit = Limit {
+        members: k,
+        role_principals: k,
+    };
+    if !feasible(masks, limit, 0, 0) {
+        return Found::Nothing;
+    }
+    let count = masks.count;
+    let mut j: usize = 0;
+    while j <= k {
+        let found = search(masks, count, k, j, 0, 0, 0);
+        if let Found::Set(s) = found {
+            return Found::Set(s);
+        }
+        j += 1;
+    }
+    Found::Nothing
 }
 
 // The least candidate.
@@ -438,12 +528,16 @@ pub fn least(masks: Masks) -> Found
     ensures { λ r. ⌜ Least masks (foundValues r) ⌝ }
 {
     let count = masks.count;
-    if !feasible(masks, MOST_PRINCIPALS, 0, 0) {
+    let limit = Limit {
+        members: MOST_PRINCIPALS,
+        role_principals: MOST_PRINCIPALS,
+    };
+    if !feasible(masks, limit, 0, 0) {
         return Found::Nothing;
     }
     let mut k: usize = 0;
     while k <= count {
-        let found = search(masks, count, k, 0, 0, 0);
+        let found = of_size(masks, k);
         if let Found::Set(s) = found {
             return Found::Set(s);
         }

@@ -132,12 +132,14 @@ pub fn check_given(rules: Record, loads: bool, ticket: Ticket) -> u8
     }
     let method = index(question.method);
     let masks = justification::masks_of(
+        &rules.formula_ops,
         rules.demarcation_count,
         &rules.demarcation_privileges,
         rules.hierarchy_count,
         &rules.inferiors,
         &rules.superiors,
         rules.principal_count,
+        &rules.principal_formulas,
         &rules.principal_demarcations,
         rules.exclusion_count,
         &rules.exclusion_lows,

@@ -10,10 +10,13 @@ use crate::sizes::{Sizes, LIMITS};
 use crate::support::Call;
 
 /// How many cases a seed has.
-pub const CASES: usize = 40_000;
+pub const CASES: usize = 41_800;
 
 /// How often each limit is reached by the first cases of a seed.
 const TIMES_AT_LIMIT: usize = 20;
+
+/// How many cases with role principals come next.
+const ROLE_PRINCIPALS: usize = 1_800;
 
 /// A bundle with a list of calls.
 pub struct Case {
@@ -25,12 +28,17 @@ pub struct Case {
     pub calls: Vec<Call>,
 }
 
-/// The case of a number: first those at the limits, then all kinds in turn.
+/// The case of a number: first those at the limits, then those with role principals, then all kinds
+/// in turn.
 pub fn case(random: &mut Random, number: usize) -> Case {
-    if number < LIMITS.len() * TIMES_AT_LIMIT {
+    let at_limits = LIMITS.len() * TIMES_AT_LIMIT;
+    if number < at_limits {
         let limit = number % LIMITS.len();
         let sizes = Sizes::at_limit(random, limit);
         return valid(random, &sizes, LIMITS[limit]);
+    }
+    if number < at_limits + ROLE_PRINCIPALS {
+        return role_principals(random);
     }
     match number % 16 {
         0..=7 => any_valid(random),
@@ -48,6 +56,12 @@ fn any_valid(random: &mut Random) -> Case {
         _ => ("small", Sizes::small(random)),
     };
     valid(random, &sizes, kind)
+}
+
+/// A valid bundle in which the order among sets with equally few members decides.
+fn role_principals(random: &mut Random) -> Case {
+    let sizes = Sizes::role_principals(random);
+    valid(random, &sizes, "role principals")
 }
 
 /// A small valid bundle with few calls, to stand beside a case.

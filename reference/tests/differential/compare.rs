@@ -76,6 +76,9 @@ fn replay_whole(
     let length = 5 * case.calls.len() + random.below(8);
     let outcome = replay(case, calls, (length, random.octet()))?;
     if let Some(watch) = watch {
+        let right = watch.is_in_order(outcome.buffer());
+        let what = "replay: not the sets and evaluations of the order".to_string();
+        let outcome = same_if(right, what, outcome.clone(), outcome)?;
         tally.list(case, outcome.buffer().chunks_exact(5), watch);
     }
     Ok(())

@@ -29,6 +29,17 @@ pub fn children([op, a, b]: [u8; 3]) -> Vec<u8> {
     }
 }
 
+/// Whether each formula is of op 3 or contains one that is, directly or through others.
+pub fn contain_roles(formulas: &[[u8; 3]]) -> Vec<bool> {
+    let mut contain = Vec::new();
+    for &formula in formulas {
+        let mut parts = children(formula).into_iter();
+        let inside = parts.any(|part| contain[usize::from(part)]);
+        contain.push(formula[0] == 3 || inside);
+    }
+    contain
+}
+
 impl Formulas<'_> {
     /// No formulas yet, to be evaluated over these edges, with ops 9 to 11 on these slots.
     pub fn over<'a>(edges: &'a [[u8; 3]], labels: &'a [u8], slots: &'a [u8]) -> Formulas<'a> {
@@ -46,6 +57,9 @@ impl Formulas<'_> {
     /// for.
     pub fn lines(mut self, random: &mut Random, sizes: &Sizes) -> Lines {
         let top = usize::from(HIGHEST);
+        if sizes.roles {
+            self.about_roles(random, sizes);
+        }
         while self.lines.len() < sizes.formulas {
             let own = self.lines.len();
             let in_tower = sizes.tower && (1..=top).contains(&own);
@@ -71,6 +85,26 @@ impl Formulas<'_> {
         }
         self.lines.truncate(sizes.formulas);
         self.lines
+    }
+
+    /// One to three formulas of op 3, then some that contain one of them under another op, then one
+    /// that is true and a step to the requestor.
+    fn about_roles(&mut self, random: &mut Random, sizes: &Sizes) {
+        for place in 0..random.between(1, 3) {
+            let any = random.octet_between(0, 15);
+            let role = if sizes.top && place == 0 { 15 } else { any };
+            self.add([3, role, 0]);
+        }
+        let roles = self.lines.len();
+        for _ in 0..random.between(2, 4) {
+            let role = random.below(roles);
+            let formula = self.compound(random, role);
+            self.add(formula);
+        }
+        self.add([0, 0, 0]);
+        let requestor = self.add([1, 0, 0]);
+        let op = random.pick(&[7, 8]);
+        self.add([op, random.pick(self.labels), requestor]);
     }
 
     /// Whether ops 9 to 11 are drawn. Where they are not, nothing is drawn for their sake.

@@ -26,6 +26,8 @@ pub struct Sizes {
     pub top: bool,
     /// Whether one demarcation gives little and methods ask for much, so that sets grow.
     pub joint: bool,
+    /// Whether about half of the principals have a formula of op 3, and others one that contains it.
+    pub roles: bool,
 }
 
 /// The limits, by name; `Sizes::at_limit` takes the place in this list.
@@ -76,6 +78,7 @@ impl Sizes {
             privileges: random.between(least, 6),
             top: random.one_in(6),
             joint,
+            roles: false,
         }
     }
 
@@ -118,6 +121,27 @@ impl Sizes {
         sizes.privileges = random.between(3, 9);
         sizes.joint = !random.one_in(3);
         sizes
+    }
+
+    /// Many role principals, of few formulas, and each privilege given by several principals, so
+    /// that many sets with equally few members meet a guard.
+    pub fn role_principals(random: &mut Random) -> Sizes {
+        let most = if random.one_in(12) { 14 } else { 10 };
+        let principals = random.between(5, most);
+        Sizes {
+            users: random.between(2, 5),
+            formulas: random.between(10, 14),
+            tower: false,
+            demarcations: random.between(4, 5),
+            hierarchy: random.below(2),
+            principals,
+            exclusions: random.below(6),
+            prerequisites: random.below(3),
+            privileges: 3,
+            joint: false,
+            roles: true,
+            ..Sizes::small(random)
+        }
     }
 
     /// A graph that is full, or will be after a few edges more.
@@ -208,6 +232,7 @@ impl Sizes {
             privileges: 12,
             top: true,
             joint: false,
+            roles: false,
         }
     }
 }

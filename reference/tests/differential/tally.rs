@@ -8,6 +8,7 @@ use crate::sizes::LIMITS;
 use crate::tally_height::Heights;
 use crate::tally_lent::{Counts, Event};
 use crate::tally_naming::Naming;
+use crate::tally_order::Order;
 use crate::tally_tickets::{Setting, Tickets};
 use crate::watch::{Noted, Watch};
 use reference::CALL_OCTETS;
@@ -65,6 +66,7 @@ pub struct Tally {
     tickets: Tickets,
     naming: Naming,
     heights: Heights,
+    order: Order,
 }
 
 impl Tally {
@@ -114,12 +116,13 @@ impl Tally {
         self.lent.add(Event::TicketsAlone, tickets);
     }
 
-    /// Counts an answer on a lent record, if it is to a ticket, depends on a slot, or may depend on
-    /// a formula at the limit of height.
+    /// Counts an answer on a lent record, if it is to a ticket, depends on a slot, may depend on a
+    /// formula at the limit of height, or shows the order of sets.
     pub fn lent_answer(&mut self, call: &[u8], answer: &[u8], setting: Setting, noted: Noted) {
         self.tickets.add(call, answer[0], setting);
         self.naming.answer(call, answer, setting, noted);
         self.heights.answer(call, answer, setting);
+        self.order.answer(call, setting, noted.shown);
     }
 
     /// Counts a write of a lent record.
@@ -157,6 +160,7 @@ impl Tally {
             let noted = watch.note(call, answer);
             self.naming.answer(call, answer, setting, noted);
             self.heights.answer(call, answer, setting);
+            self.order.answer(call, setting, noted.shown);
             setting.edited |= call[0] <= 1 && answer[0] == 0;
         }
     }
@@ -203,6 +207,7 @@ impl Tally {
         self.tickets.print();
         self.naming.print();
         self.heights.print();
+        self.order.print();
         self.lent.print();
         println!("\nvalid bundles by the limits they reach");
         for (name, count) in LIMITS.iter().zip(self.limits) {
@@ -241,6 +246,7 @@ impl Tally {
         gaps.extend(self.tickets.gaps(LEAST));
         gaps.extend(self.naming.gaps(LEAST));
         gaps.extend(self.heights.gaps(LEAST));
+        gaps.extend(self.order.gaps(LEAST));
         gaps.extend(self.lent.gaps());
         gaps
     }

@@ -1,11 +1,13 @@
-//! Which answers to a list of calls depend on what a slot holds.
+//! Which answers to a list of calls depend on what a slot holds, and what they show of the order of
+//! sets.
 
 use crate::calls::TICKET;
 use crate::frame;
+use crate::order::{self, Read, Shown};
 use crate::support::{bundle, call, principal_count, Call};
 use std::collections::BTreeMap;
 
-/// Rules with more principals are not watched, since the reference weighs every set.
+/// Rules with more principals are not watched, since every set is weighed.
 const MOST_PRINCIPALS: usize = 10;
 
 /// The answers to a list of calls in turn, beside those of the same rules with ops 10 and 11 false.
@@ -14,6 +16,8 @@ const MOST_PRINCIPALS: usize = 10;
 pub struct Watch {
     /// What those rules answer to the calls that are still to come, if that can differ at all.
     without: std::vec::IntoIter<[u8; 5]>,
+    /// What the calls that are still to come show of the order of sets, if that was read.
+    order: std::vec::IntoIter<Read>,
     /// Accepted edits so far.
     edits: usize,
     /// The last answer to each question and ticket.
@@ -35,6 +39,8 @@ pub struct Noted {
     pub depends: bool,
     /// The same call had another answer before an accepted edit, and one of the two depends.
     pub changed: bool,
+    /// What it shows of the order of sets.
+    pub shown: Shown,
 }
 
 impl Watch {
@@ -48,21 +54,35 @@ impl Watch {
         let affordable = principal_count(text) <= MOST_PRINCIPALS;
         let without = affordable.then(|| without_slots(text)).flatten();
         let without = without.map(answers);
+        let order = affordable.then(|| order::read(text, calls));
         Watch {
             without: without.unwrap_or_default().into_iter(),
+            order: order.unwrap_or_default().into_iter(),
             edits: 0,
             last: BTreeMap::new(),
         }
     }
 
+    /// Whether the questions have the sets and evaluations that the order of sets gives.
+    pub fn is_in_order(&self, answers: &[u8]) -> bool {
+        let read = self.order.as_slice().iter();
+        let mut both = read.zip(answers.chunks_exact(5));
+        both.all(|(read, answer)| read.answer.is_none_or(|expected| expected == answer))
+    }
+
     /// Takes up the answer to the next call.
     pub fn note(&mut self, call: &Call, answer: &[u8]) -> Noted {
+        let shown = self.order.next().unwrap_or_default().shown;
+        let noted = Noted {
+            shown,
+            ..Noted::default()
+        };
         let Some(without) = self.without.next() else {
-            return Noted::default();
+            return noted;
         };
         if call[0] <= 1 {
             self.edits += usize::from(answer[0] == 0);
-            return Noted::default();
+            return noted;
         }
         let new = Last {
             answer: [answer[0], answer[1], answer[2], answer[3]],
@@ -73,7 +93,11 @@ impl Watch {
         let old = self.last.get(&asked(call));
         let changed = old.is_some_and(|old| new.changes(old));
         self.last.insert(asked(call), new);
-        Noted { depends, changed }
+        Noted {
+            depends,
+            changed,
+            shown,
+        }
     }
 }
 

@@ -41,6 +41,16 @@ impl Sentences<'_> {
         }
     }
 
+    /// Where a set stands in the order: "fewest members", then of "equally few members, the one with
+    /// fewer role principals (formula of op 3) now comes first, and then the smaller set number".
+    pub fn place(&self, set: u32) -> (u32, usize, u32) {
+        let (formulas, principals) = (self.of_kind(4), self.of_kind(7));
+        let is_role = |p: usize| formulas[usize::from(principals[p][0])][0] == 3;
+        let members = (0..principals.len()).filter(|p| set >> p & 1 == 1);
+        let roles = members.filter(|&p| is_role(p)).count();
+        (set.count_ones(), roles, set)
+    }
+
     /// The bodies of the lines of a kind, by number.
     fn of_kind(&self, kind: u8) -> Vec<&[u8]> {
         let of = self.lines.iter().filter(|line| line[0] == kind);

@@ -73,8 +73,8 @@ index-requires : tie.Need-index-requires
 index-requires c κs = search needs
 
 -- the method's index, from where the columns of the masks were lent
-abbrev grounds-lent : tie.After-masks-of-arg10 → tie.After-index
-grounds-lent c = c .before .before .before .before .before .before .before .before .before .before .before
+abbrev grounds-lent : tie.After-masks-of-arg12 → tie.After-index
+grounds-lent c = c .before .before .before .before .before .before .before .before .before .before .before .before .before
 
 masks-of-requires : tie.Need-masks-of-requires
 masks-of-requires c κs =

@@ -18,6 +18,7 @@ returns c =
       needed = k .needed;
       needs = k .needs;
       grants = k .grants;
+      rolePrincipals = k .rolePrincipals;
       every = k .every;
       wanted = k .wanted;
       bounded = k .bounded;

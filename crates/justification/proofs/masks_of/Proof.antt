@@ -14,6 +14,9 @@ leading-to-requires c κs = search needs
 grants-of-requires : tie.Need-grants-of-requires
 grants-of-requires c κs = search needs
 
+role-principals-requires : tie.Need-role-principals-requires
+role-principals-requires c κs = search needs
+
 mul-listed : tie.Need-mul-listed
 mul-listed c = search needs
 
@@ -23,13 +26,14 @@ element-copy-out-listed c = search needs
 listed-requires : tie.Need-listed-requires
 listed-requires c κs = search needs
 
-element-copy-out-t28 : tie.Need-element-copy-out-t28
-element-copy-out-t28 c = search needs
+element-copy-out-t31 : tie.Need-element-copy-out-t31
+element-copy-out-t31 c = search needs
 
 returns : tie.Need-returns
 returns c =
     let w = c .before .listed .ensures in
-    let g = c .before .before .before in
+    let o = c .before .before .before in
+    let g = o .before in
     let n = g .before in
     let e = n .before in
     masked-by
@@ -40,6 +44,7 @@ returns c =
       excludes = e .excludes-of .ensures;
       needs = n .leading-to .ensures;
       grants = g .grants-of .ensures;
+      rolePrincipals = o .role-principals .ensures;
       every = refl;
       wanted = w .0;
       bounded = w .1;
@@ -52,8 +57,9 @@ masks-of-spec =
     excludes-of-requires
     leading-to-requires
     grants-of-requires
+    role-principals-requires
     mul-listed
     element-copy-out-listed
     listed-requires
-    element-copy-out-t28
+    element-copy-out-t31
     returns)

@@ -5,11 +5,12 @@ use mathlib.Core.Path.{subst}
 use mathlib.Core.Logic.{⊎-elim}
 use Prim.Native.Nat.{ℕ, _+_, _-_, _*_, _<_}
 use lib.Bits.{bitOr}
+use lib.Count.{ones-le}
 use Rattle.common.specs.Limits.{mostPrincipals}
 use Rattle.common.specs.Lists.{at}
 use Rattle.search.specs.Steps.{NoneHolds, NoneFrom}
 use Rattle.search.proofs.Decide.{true-not-false}
-use Rattle.search.proofs.Prunes.{none-wanted, no-giver, past-all, none-between, neither-way}
+use Rattle.search.proofs.Prunes.{none-wanted, no-room, no-giver, past-all, none-between, neither-way}
 use borrow.Author.Needs.{needs}
 use borrow.Fn.Kinds.{In}
 use borrow.Fn.PlainCycle.{Measures, is, falls, and}
@@ -139,17 +140,28 @@ possible-returns t c = λ e. absurd (true-not-false e)
 possible-returns-2 : (t : ℕ) → possible-lts.Need-returns-2 (possible-claims t) (possible-at t) possible.Post
 possible-returns-2 t c = λ e. none-wanted (c .if2 .taken) e
 
+possible-cast-size : (t : ℕ) → possible-lts.Need-cast-size (possible-claims t) (possible-at t) possible.Post
+possible-cast-size t c =
+    let start = c .before .before .before .before in
+    record { fits = omega (arith, ones-le 32 (start .args .chosen) (start .fits .chosen .fits)) }
+
 possible-returns-3 : (t : ℕ) → possible-lts.Need-returns-3 (possible-claims t) (possible-at t) possible.Post
-possible-returns-3 t c = λ e. absurd (true-not-false e)
+possible-returns-3 t c =
+    let unmet = c .before .before .before .before in
+    let start = unmet .before .before in
+    λ e. no-room (start .pre .1 .1) (unmet .before .meets .ensures .no (unmet .if1 .left)) (c .if3 .taken)
+
+possible-returns-4 : (t : ℕ) → possible-lts.Need-returns-4 (possible-claims t) (possible-at t) possible.Post
+possible-returns-4 t c = λ e. absurd (true-not-false e)
 
 possible-asked-requires : (t : ℕ) → possible-lts.Need-asked-requires (possible-claims t) (possible-at t) possible.Post
-possible-asked-requires t c κs = (omega arith, c .before .if2 .left)
+possible-asked-requires t c κs = (omega arith, c .before .before .before .if2 .left)
 
 possible-by-giver-requires : (t : ℕ) → possible-lts.Need-by-giver-requires (possible-claims t) (possible-at t) possible.Post
 possible-by-giver-requires t c κs = search needs
 
-possible-returns-4 : (t : ℕ) → possible-lts.Need-returns-4 (possible-claims t) (possible-at t) possible.Post
-possible-returns-4 t c = λ e. no-giver (c .before .asked .ensures) (c .by-giver .ensures e)
+possible-returns-5 : (t : ℕ) → possible-lts.Need-returns-5 (possible-claims t) (possible-at t) possible.Post
+possible-returns-5 t c = λ e. no-giver (c .before .asked .ensures) (c .by-giver .ensures e)
 
 pub +by-giver+possible-spec : {M : Type 1} → statement M
 +by-giver+possible-spec = close μ-by-giver μ-possible (λ t. by-giver-lts.spec (giver-claims t)
@@ -182,7 +194,9 @@ pub +by-giver+possible-spec : {M : Type 1} → statement M
     (possible-meets-requires t)
     (possible-returns t)
     (possible-returns-2 t)
+    (possible-cast-size t)
     (possible-returns-3 t)
+    (possible-returns-4 t)
     (possible-asked-requires t)
     (possible-by-giver-requires t)
-    (possible-returns-4 t)
+    (possible-returns-5 t)

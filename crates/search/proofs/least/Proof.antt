@@ -5,16 +5,15 @@ use native.Mathlib.Omega.{arith}
 use borrow.Author.Needs.{needs}
 use borrow.Author.Tests.{not-true}
 use lib.Count.{ones}
-use Rattle.common.specs.SetLaws.{none-in-zero}
 use Rattle.search.specs.Search.{Candidate}
 use Rattle.search.specs.Answers.GrantedOrDenied.{grants, denies}
 use Rattle.search.specs.AnswerLaws.{found-set, found-nothing}
-use Rattle.search.proofs.Steps.{start, least-found, higher, past}
+use Rattle.search.proofs.Steps.{least-found, higher, past}
 use Rattle.search.proofs.Prunes.{no-candidate}
 use Rattle.search.proofs.least.Statement.{statement}
 use Rattle.search.proofs.least.Tie as tie
 use Rattle.search.proofs.feasible.Reads as feasible-reads
-use Rattle.search.proofs.search.Reads as search-reads
+use Rattle.search.proofs.of_size.Reads as of-size-reads
 
 abbrev Inv-loop : tie.InvT-loop
 Inv-loop masks count k₀ k = ((t : ℕ) → Candidate masks t → k ≤ ones t) × (k ≤ count + 1)
@@ -26,14 +25,17 @@ feasible-requires : tie.Need-feasible-requires Inv-loop μ-loop
 feasible-requires c κs = c .pre
 
 returns : tie.Need-returns Inv-loop μ-loop
-returns c = denies refl (no-candidate (c .before .before .pre) (c .before .feasible .ensures (not-true _ (c .if1 .taken))))
+returns c =
+    denies refl
+    (no-candidate (c .before .feasible .ensures (not-true _ (c .if1 .taken))) (omega (arith, c .before .before .pre)) (omega arith))
 
 loop-holds : tie.Need-loop-holds Inv-loop μ-loop
 loop-holds c = (λ t d. zero-le, omega arith)
 
-search-requires : tie.Need-search-requires Inv-loop μ-loop
-search-requires c κs =
-    (start _ (c .before .before .before .before .pre), record { by = λ t d f q i. absurd (none-in-zero q i) })
+of-size-requires : tie.Need-of-size-requires Inv-loop μ-loop
+of-size-requires c κs =
+    let s = c .before .before .before .before in
+    (s .pre, omega (arith, s .pre, c .loop-test .taken))
 
 enum-known-found : tie.Need-enum-known-found Inv-loop μ-loop
 enum-known-found c = search needs
@@ -41,7 +43,7 @@ enum-known-found c = search needs
 returns-2 : tie.Need-returns-2 Inv-loop μ-loop
 returns-2 c =
     let called = c .before .before .before in
-    grants _ refl (least-found (called .before .before .loop .inv .0) (found-set (called .search .ensures) (c .before .found .given .1)))
+    grants _ refl (least-found (called .before .before .loop .inv .0) (found-set (called .of-size .ensures) (c .before .found .given .1)))
 
 enum-told : tie.Need-enum-told Inv-loop μ-loop
 enum-told c = search needs
@@ -55,7 +57,7 @@ loop-less c = omega arith
 loop-again : tie.Need-loop-again Inv-loop μ-loop
 loop-again c =
     let called = c .before .before in
-    (higher (called .before .before .loop .inv .0) (found-nothing (called .search .ensures) (c .enum-told .given .1)), omega arith)
+    (higher (called .before .before .loop .inv .0) (found-nothing (called .of-size .ensures) (c .enum-told .given .1)), omega arith)
 
 returns-3 : tie.Need-returns-3 Inv-loop μ-loop
 returns-3 c = denies refl (past (c .before .loop .inv .0) (omega arith))
@@ -69,7 +71,7 @@ least-spec =
     feasible-requires
     returns
     loop-holds
-    search-requires
+    of-size-requires
     enum-known-found
     returns-2
     enum-told

@@ -8,10 +8,10 @@ use Rattle.search.proofs.lowest.Reads as lowest-reads
 use Rattle.search.proofs.open_grants.Reads as open-grants-reads
 
 abbrev Inv-loop : tie.InvT-loop
-Inv-loop chosen granted barred masks unmet free count once₀ twice₀ thrice₀ p₀ once twice thrice p = p ≤ count
+Inv-loop chosen granted barred masks unmet free count one₀ two₀ three₀ four₀ five₀ six₀ p₀ one two three four five six p = p ≤ count
 
 abbrev μ-loop : tie.MeasureT-loop
-μ-loop chosen granted barred masks unmet free count once₀ twice₀ thrice₀ p₀ once twice thrice p = count - p
+μ-loop chosen granted barred masks unmet free count one₀ two₀ three₀ four₀ five₀ six₀ p₀ one two three four five six p = count - p
 
 loop-holds : tie.Need-loop-holds Inv-loop μ-loop
 loop-holds c = search needs
@@ -43,6 +43,9 @@ loop-again c = search needs
 first-of-requires : tie.Need-first-of-requires Inv-loop μ-loop
 first-of-requires c κs = search needs
 
+first-of-requires-2 : tie.Need-first-of-requires-2 Inv-loop μ-loop
+first-of-requires-2 c κs = search needs
+
 lowest-requires : tie.Need-lowest-requires Inv-loop μ-loop
 lowest-requires c κs = search needs
 
@@ -65,5 +68,6 @@ rarest-spec =
     loop-less
     loop-again
     first-of-requires
+    first-of-requires-2
     lowest-requires
     returns)

@@ -83,8 +83,8 @@ abbrev passed : tie.After-index → tie.Else2
 passed c = c .before .before .before
 
 -- the method's index, from where the columns were lent
-abbrev lent : tie.After-masks-of-arg10 → tie.After-index
-lent c = c .before .before .before .before .before .before .before .before .before .before .before
+abbrev lent : tie.After-masks-of-arg12 → tie.After-index
+lent c = c .before .before .before .before .before .before .before .before .before .before .before .before .before
 
 masks-of-requires : tie.Need-masks-of-requires
 masks-of-requires c κs =
