@@ -9,6 +9,7 @@
 struct area text_area, calls_area, engine_area, reference_area;
 struct slice text, calls;
 struct bundle lines;
+uint32_t role_principals;
 
 /* Prints bytes: text as it is where that is asked for, anything else as hexadecimal. */
 static void print(const char *name, struct slice bytes, bool as_text)

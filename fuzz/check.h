@@ -5,10 +5,11 @@
 #include "bundle.h"
 #include "guarded.h"
 
-/* The bundle's text and the calls, each against a forbidden page, and the lines of an accepted text. */
+/* The bundle's text and the calls, each against a forbidden page; the lines of an accepted text, and the set of its role principals. */
 extern struct area text_area, calls_area;
 extern struct slice text, calls;
 extern struct bundle lines;
+extern uint32_t role_principals;
 
 /* The buffers lent to the engine and to the reference. */
 extern struct area engine_area, reference_area;

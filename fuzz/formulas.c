@@ -75,6 +75,23 @@ unsigned uses_of(const struct bundle *bundle)
     return uses;
 }
 
+/* The set of a bundle's role principals: those whose own formula is of op 3, not those whose formula contains one. */
+uint32_t role_principals_of(const struct bundle *bundle)
+{
+    uint8_t ops[256] = {0};
+    uint32_t set = 0;
+    size_t i, formulas = 0, principals = 0;
+
+    for (i = 0; i < bundle->count; i++) {
+        const uint8_t *octets = bundle->lines[i].octets;
+        if (octets[1] == FORMULA)
+            ops[formulas++ % 256] = octets[2];
+        if (octets[1] == PRINCIPAL)
+            set |= (uint32_t)(ops[octets[2]] == ROLE) << principals++ % 32;
+    }
+    return set;
+}
+
 /* Whether the numbers of a formula with a part are in range behind so many others. */
 static bool numbers_fit(const uint8_t *body, size_t own)
 {

@@ -1,12 +1,12 @@
-/* Formulas: which of their numbers name others, how high they are, and what they do with slots. */
+/* Formulas: which of their numbers name others, how high they are, what they do with slots, and whose are of op 3. */
 #ifndef FORMULAS_H
 #define FORMULAS_H
 
 #include "bundle.h"
 #include "heights.h"
 
-enum { NOT = 4, AND = 5, OR = 6, FORWARD = 7, BACKWARD = 8, KEEP = 9, HERE = 10, AT = 11, OPS = 12 };
-enum { LABELS = 16, SLOTS = 4 };
+enum { ROLE = 3, NOT = 4, AND = 5, OR = 6, FORWARD = 7, BACKWARD = 8, KEEP = 9, HERE = 10, AT = 11, OPS = 12 };
+enum { ROLES = 16, LABELS = 16, SLOTS = 4 };
 
 /* So many ops have a part, which makes their formulas higher. */
 enum { WITH_PART = 7 };
@@ -21,6 +21,7 @@ bool a_is_part(unsigned op);
 bool b_is_part(unsigned op);
 unsigned height_over(const uint8_t *body, const unsigned *heights);
 unsigned uses_of(const struct bundle *bundle);
+uint32_t role_principals_of(const struct bundle *bundle);
 unsigned too_high_by(const struct bundle *bundle, size_t place);
 
 #endif

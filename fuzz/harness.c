@@ -215,17 +215,24 @@ static void check_forms(const uint8_t *answers)
     *kind ^= 1;
 }
 
-/* The number of a ticket beside the answer to its question at the same point. What was granted is accepted, and nothing less than it. */
+/* The number of a ticket beside a grant: what was granted is accepted, and nothing less than it. Where a set is accepted that comes before
+ * it by members and number alone, the role principals decided. */
+static void check_beside_grant(uint32_t granted, uint32_t set, unsigned number)
+{
+    must(set == granted ? number == 0 : number != 0 || !set_less(set, granted, role_principals), "replay: ticket and grant don't agree");
+    if (number == 0 && set_less(set, granted, 0))
+        tally_by_roles();
+}
+
+/* The number of a ticket beside the answer to its question at the same point. */
 static void check_ticket(const uint8_t *question, uint32_t set, unsigned number)
 {
-    uint32_t granted = set_of_answer(question);
-
     if (question[0] == 17)
         must(number >= 20 && number <= 22, "replay: a ticket accepted where no set will do");
     else if (question[0] != 0)
         must(number == question[0], "replay: ticket and question refused with different numbers");
     else
-        must(set == granted ? number == 0 : number != 0 || !set_less(set, granted), "replay: ticket and grant don't agree");
+        check_beside_grant(set_of_answer(question), set, number);
 }
 
 /* The calls with tickets put behind questions, for the set of the answer or one near it; added tells which calls are these. */
@@ -241,7 +248,7 @@ static struct slice with_tickets(const uint8_t *answers, bool *added)
             continue;
         memcpy(list + length, call, CALL), added[length / CALL] = true;
         list[length] = ACCESS_CALL_TICKET;
-        set_put(list + length, set_near(set_of_answer(answers + ANSWER * i), count_of(&lines, PRINCIPAL)));
+        set_put(list + length, set_near(set_of_answer(answers + ANSWER * i), count_of(&lines, PRINCIPAL), role_principals));
         length += CALL;
     }
     memcpy(list + length, calls.start + CALL * count, rest);
@@ -296,6 +303,7 @@ static void keep_affordable(struct slice all)
     uint64_t budget = one_in(64) ? 10000000 : 300000;
 
     bundle_read(&lines, text);
+    role_principals = role_principals_of(&lines);
     tally_formulas(&lines);
     calls = placed(&calls_area, (struct slice){kept, affordable(&lines, all, budget, kept)});
     tally_dropped((all.length - calls.length) / CALL);

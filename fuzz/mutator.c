@@ -84,6 +84,15 @@ static uint8_t a_label(void)
     return edge && one_in(2) ? edge->octets[2] : (uint8_t)below(one_in(4) ? LABELS : 3);
 }
 
+/* A role: the lowest that one of the users holds, one of the first few, or any. */
+static uint8_t a_role(void)
+{
+    const struct line *user = line_of(&bundle, USER, below((unsigned)count_of(&bundle, USER)));
+    unsigned held = user ? (unsigned)user->octets[3] << 8 | user->octets[4] : 0;
+
+    return held && one_in(2) ? (uint8_t)__builtin_ctz(held) : named(one_in(3) ? 3 : ROLES);
+}
+
 /* A slot, mostly one of two so that they meet. */
 static uint8_t a_slot(void)
 {
@@ -105,7 +114,7 @@ static void fill_op(uint8_t *body, uint8_t op, bool on_top)
     uint8_t a = on_top && own > 1 && one_in(2) ? (uint8_t)(own - 2) : named(own), b = on_top && own ? (uint8_t)(own - 1) : named(own);
 
     body[0] = op;
-    body[1] = op < 3 ? 0 : op == 3 ? named(16) : op == NOT ? b : op < FORWARD ? a : op < KEEP ? a_label() : a_slot();
+    body[1] = op < ROLE ? 0 : op == ROLE ? a_role() : op == NOT ? b : op < FORWARD ? a : op < KEEP ? a_label() : a_slot();
     body[2] = b_is_part(op) ? b : 0;
 }
 
@@ -281,6 +290,50 @@ static void add_rising(unsigned height, uint8_t op)
     add_above(op, lowest);
 }
 
+/* Adds a formula that has nothing to do with roles, some of op 3, and some on top that contain the last of these; how many. */
+static unsigned add_roles(void)
+{
+    unsigned i, roles = 1 + below(2), over = below(3);
+
+    add_on_top((uint8_t)below(ROLE), 0);
+    for (i = 0; i < roles; i++)
+        add_on_top(ROLE, 0);
+    for (i = 0; i < over; i++)
+        add_above(one_in(3) ? NOT : ops_with_part[below(WITH_PART)], (uint8_t)below((unsigned)count_of(&bundle, FORMULA)));
+    return 1 + roles + over;
+}
+
+/* Gives principals, old and new ones, one of the last so many formulas each, and the first few demarcations in turn. */
+static void share(unsigned formulas, unsigned few)
+{
+    unsigned i, last = (unsigned)count_of(&bundle, FORMULA) - 1;
+    uint8_t *principal;
+
+    for (i = 3 * few; i > 0; i--) {
+        if (count_of(&bundle, PRINCIPAL) < 2 * few + 2)
+            add_line(PRINCIPAL);
+        principal = body_of(PRINCIPAL, below((unsigned)count_of(&bundle, PRINCIPAL)));
+        if (principal)
+            principal[0] = (uint8_t)(last - below(formulas)), principal[1] = (uint8_t)(i % few);
+    }
+}
+
+/* Makes the first few demarcations list a privilege each, and a method want these, one of them or all; the method's number. */
+static uint8_t want(unsigned few)
+{
+    unsigned i, number = below((unsigned)count_of(&bundle, METHOD));
+    uint8_t *method = body_of(METHOD, number), *listed;
+
+    for (i = 0; i < few; i++) {
+        listed = body_of(DEMARCATION, i);
+        if (listed)
+            memset(listed, 0, 8), listed[7] = (uint8_t)(1 << i);
+    }
+    if (method)
+        memset(method, 0, 9), method[0] = !one_in(4), method[8] = (uint8_t)((1 << few) - 1);
+    return (uint8_t)number;
+}
+
 /* Adds many lines of a kind, now and then up to its limit and one more. */
 static void add_lines(unsigned kind)
 {
@@ -401,7 +454,7 @@ static void repair_formula(uint8_t *body, size_t own, const unsigned *heights)
     uint8_t op = body[0] = own ? brought(body[0], OPS) : body[0] == HERE ? HERE : brought(body[0], NOT);
     uint8_t a = body[1], b = body[2];
 
-    body[1] = op < 3 ? 0 : a_is_part(op) ? brought_part(a, own, heights) : brought(a, op < KEEP ? LABELS : SLOTS);
+    body[1] = op < ROLE ? 0 : a_is_part(op) ? brought_part(a, own, heights) : brought(a, op < KEEP ? LABELS : SLOTS);
     body[2] = b_is_part(op) ? brought_part(b, own, heights) : 0;
 }
 
@@ -567,7 +620,7 @@ static void fill_set(uint8_t *call)
 {
     bool has_set = call[0] == ACCESS_CALL_TICKET || one_in(10);
 
-    set_put(call, has_set ? set_near(set_noted(), count_of(&bundle, PRINCIPAL)) : 0);
+    set_put(call, has_set ? set_near(set_noted(), count_of(&bundle, PRINCIPAL), role_principals_of(&bundle)) : 0);
 }
 
 /* Fills in what a question or ticket is about: a method, an object, often one at the end of an edge, and mostly a user. */
@@ -627,6 +680,27 @@ static void change_principal(void)
     set_put(call, (uint32_t)1 << number % 32);
     for (tickets = 1 + below(4); tickets > 0; tickets--) {
         fill_question(call);
+        insert_call(CALL * (size_t)below((unsigned)(calls_length / CALL + 1)), call);
+    }
+}
+
+/* Gives principals formulas of op 3 and around it and the same few privileges, so that many sets have equally few members, and asks. */
+static void change_roles(void)
+{
+    unsigned few = 1 + below(4), asked;
+    uint8_t call[CALL], method;
+    size_t i;
+
+    for (i = count_of(&bundle, DEMARCATION); i < few; i++)
+        add_line(DEMARCATION);
+    if (count_of(&bundle, METHOD) < 2)
+        add_line(METHOD);
+    share(add_roles(), few);
+    method = want(few);
+    for (asked = 2 + below(4); asked > 0; asked--) {
+        call[0] = one_in(3) ? ACCESS_CALL_TICKET : (uint8_t)(ACCESS_CALL_EAGER + below(2));
+        fill_set(call), fill_question(call);
+        call[1] = method;
         insert_call(CALL * (size_t)below((unsigned)(calls_length / CALL + 1)), call);
     }
 }
@@ -787,6 +861,8 @@ size_t LLVMFuzzerCustomMutator(uint8_t *data, size_t size, size_t max_size, unsi
     for (steps = 1 + below(4); steps > 0; steps--)
         if (one_in(15))
             change_principal();
+        else if (one_in(15))
+            change_roles();
         else if (one_in(2))
             change_calls();
         else

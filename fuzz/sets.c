@@ -25,10 +25,32 @@ void set_put(uint8_t *call, uint32_t set)
     call[4] = (uint8_t)(set >> 24), call[5] = (uint8_t)(set >> 16), call[6] = (uint8_t)(set >> 8), call[7] = (uint8_t)set;
 }
 
-/* The set, one with a principal more or fewer, any of so many principals, one with a member that may be none, or any number. */
-uint32_t set_near(uint32_t set, size_t principals)
+/* A set of one member of a set, or the empty one. */
+static uint32_t one_of(uint32_t set)
 {
-    switch (below(8)) {
+    unsigned passed;
+
+    for (passed = below((unsigned)__builtin_popcount(set)); passed > 0; passed--)
+        set &= set - 1;
+    return set & -set;
+}
+
+/* A set with as many members: one of them is exchanged, mostly a role principal for another principal or the reverse. */
+static uint32_t set_exchanged(uint32_t set, uint32_t all, uint32_t role_principals)
+{
+    uint32_t without = one_of(set & all), others = without & role_principals ? all & ~role_principals : all & role_principals;
+    uint32_t with = one_of((one_in(4) ? all : others) & ~set);
+
+    return with ? (set & ~without) | with : set;
+}
+
+/* The set, one with a principal more or fewer, any of so many principals, one with a member that may be none, any number, or one with a
+ * member exchanged. */
+uint32_t set_near(uint32_t set, size_t principals, uint32_t role_principals)
+{
+    uint32_t all = principals < 32 ? ((uint32_t)1 << principals) - 1 : UINT32_MAX;
+
+    switch (below(12)) {
     case 0:
     case 1:
         return set;
@@ -37,20 +59,25 @@ uint32_t set_near(uint32_t set, size_t principals)
         return set ^ (uint32_t)1 << below(principals < 32 ? (unsigned)principals : 32);
     case 4:
     case 5:
-        return principals < 32 ? random_any() & (((uint32_t)1 << principals) - 1) : random_any();
+        return random_any() & all;
     case 6:
         return set | (uint32_t)1 << below(32);
-    default:
+    case 7:
         return random_any();
+    default:
+        return set_exchanged(set, all, role_principals);
     }
 }
 
-/* Whether a set comes before another: fewer members, then the smaller number. */
-bool set_less(uint32_t one, uint32_t other)
+/* Whether a set comes before another: fewer members, then fewer role principals, then the smaller number. */
+bool set_less(uint32_t one, uint32_t other, uint32_t role_principals)
 {
     int members = __builtin_popcount(one), others = __builtin_popcount(other);
+    int roles = __builtin_popcount(one & role_principals), other_roles = __builtin_popcount(other & role_principals);
 
-    return members != others ? members < others : one < other;
+    if (members != others)
+        return members < others;
+    return roles != other_roles ? roles < other_roles : one < other;
 }
 
 /* Notes a set that was granted. */

@@ -2,16 +2,19 @@
 
 #include <stdio.h>
 
+#include "check.h"
 #include "formulas.h"
 #include "index.h"
 #include "sets.h"
 
 static size_t bundles[19], answers[23], kinds[8], granted, yes, tickets, dropped;
 static size_t parts, writes[20], again, of_edited, refused, altered[20];
+static size_t mixed, mixed_granted, with_role, without_role, by_roles;
 static size_t using[USES], evaluated[USES], misindexed[WAYS], too_high[OPS], lent_too_high[OPS];
 
-/* What the formulas of the bundle at hand have in them. */
+/* What the formulas of the bundle at hand have in them, and whether it has role principals and others. */
 static unsigned uses;
+static bool is_mixed;
 
 /* Counts a bundle by its number. */
 void tally_bundle(uint64_t number)
@@ -19,7 +22,7 @@ void tally_bundle(uint64_t number)
     bundles[number]++;
 }
 
-/* Counts an accepted bundle by what its principals' formulas have in them. */
+/* Counts an accepted bundle by what its principals' formulas have in them, and if some are of op 3 and others are not. */
 void tally_formulas(const struct bundle *bundle)
 {
     unsigned i;
@@ -27,6 +30,8 @@ void tally_formulas(const struct bundle *bundle)
     uses = uses_of(bundle);
     for (i = 0; i < USES; i++)
         using[i] += uses >> i & 1;
+    is_mixed = role_principals != 0 && (size_t)__builtin_popcount(role_principals) < count_of(bundle, PRINCIPAL);
+    mixed += is_mixed;
 }
 
 /* Counts a bundle that is refused for the height of a formula, by its op. */
@@ -47,6 +52,17 @@ static bool evaluates(unsigned kind, unsigned number)
     return kind >= ACCESS_CALL_EAGER && kind <= ACCESS_CALL_TICKET && (number < 14 || number > 16);
 }
 
+/* Counts a granted set other than the empty one, and whether a role principal is in it or could have been. */
+static void tally_granted(uint32_t set)
+{
+    bool has_role = (set & role_principals) != 0;
+
+    granted++;
+    mixed_granted += is_mixed;
+    with_role += has_role;
+    without_role += !has_role && role_principals != 0;
+}
+
 /* Counts an answer by its number, by the kind of its call, and by what is in the formulas. */
 void tally_answer(unsigned kind, const uint8_t *answer)
 {
@@ -57,9 +73,16 @@ void tally_answer(unsigned kind, const uint8_t *answer)
         evaluated[i] += uses >> i & 1;
     answers[answer[0]]++;
     kinds[kind > ACCESS_CALL_TICKET ? 7 : kind]++;
-    granted += (kind == ACCESS_CALL_EAGER || kind == ACCESS_CALL_LAZY) && set != 0;
+    if ((kind == ACCESS_CALL_EAGER || kind == ACCESS_CALL_LAZY) && set != 0)
+        tally_granted(set);
     yes += (kind == ACCESS_CALL_LIBERAL || kind == ACCESS_CALL_STRICT) && set != 0;
     tickets += kind == ACCESS_CALL_TICKET && answer[0] == 0;
+}
+
+/* Counts a grant where the role principals decided. */
+void tally_by_roles(void)
+{
+    by_roles++;
 }
 
 /* Counts the calls left out as too slow. */
@@ -109,6 +132,14 @@ void tally_lent_misindexed(unsigned way)
 void tally_lent_too_high(unsigned op)
 {
     lent_too_high[op]++;
+}
+
+/* Prints the counts of the order of sets. */
+static void tally_order_print(void)
+{
+    fprintf(stderr, "role principals and others: accepted bundles:%zu, sets granted on them:%zu; ", mixed, mixed_granted);
+    fprintf(stderr, "sets granted with a role principal:%zu, without though there is one:%zu, ", with_role, without_role);
+    fprintf(stderr, "before one of as many members and a smaller number, whose ticket was accepted:%zu\n", by_roles);
 }
 
 /* Prints the counts of lent records. */
@@ -174,6 +205,7 @@ void tally_print(void)
         fprintf(stderr, " %s:%zu", names[i], kinds[i]);
     fprintf(stderr, "; sets granted other than the empty one: %zu; yes: %zu; tickets accepted: %zu; ", granted, yes, tickets);
     fprintf(stderr, "calls left out as too slow: %zu\n", dropped);
+    tally_order_print();
     tally_formulas_print();
     tally_lent_print();
 }

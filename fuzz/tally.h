@@ -9,6 +9,7 @@ void tally_formulas(const struct bundle *bundle);
 void tally_too_high(unsigned op);
 void tally_short(void);
 void tally_answer(unsigned kind, const uint8_t *answer);
+void tally_by_roles(void);
 void tally_dropped(size_t calls);
 void tally_lent_part(void);
 void tally_lent_write(uint64_t number);

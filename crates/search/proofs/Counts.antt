@@ -1,5 +1,5 @@
 -- How many members a set has, and how many of them are role principals, where R is the set of these.
-use mathlib.Core.Path.{_≡_, refl, sym, ap, _∙_}
+use mathlib.Core.Path.{_≡_, refl, sym, ap, subst, _∙_}
 use Prim.Native.Nat.{ℕ, _+_, _*_, _/_, _%_, _^_, _≤_, _<_}
 use native.Mathlib.Nat.{mod-lt, mod-eq-of-lt, lt-of-le-of-lt, one-mul}
 use native.Mathlib.Omega.{arith}
@@ -9,7 +9,7 @@ use lib.Bits.{bitAnd, and-block, and-mod, and-comm, and-le-l, and-step}
 use lib.Count.{ones, ones-step, ones-cat}
 use Rattle.common.specs.CountLaws.{ones-zero}
 use Rattle.common.specs.Sets.{Within}
-use Rattle.common.specs.SetLaws.{within-and}
+use Rattle.common.specs.SetLaws.{in-and, and-in-l, and-in-r, within-and}
 
 -- a part has no more members than the whole
 pub ones-and : (a b : ℕ) → ones (bitAnd a b) ≤ ones a
@@ -17,6 +17,14 @@ ones-and = bin-ind (λ (n : ℕ). (b : ℕ) → ones (bitAnd n b) ≤ ones n) (�
     let h = ih (b / 2) in
     let e : bitAnd n b / 2 ≡ bitAnd (n / 2) (b / 2) = omega (arith, and-step n b) in
     omega (arith, ones-step (bitAnd n b), ones-step n, ap ones e, and-step n b))
+
+pub within-ones : (a b : ℕ) → Within a b → ones a ≤ ones b
+within-ones a b f = subst (λ (z : ℕ). ones z ≤ ones b) (and-comm b a ∙ within-and a b f) (ones-and b a)
+
+-- nor more role principals
+pub within-role-count : (R a b : ℕ) → Within a b → ones (bitAnd a R) ≤ ones (bitAnd b R)
+within-role-count R a b f =
+    within-ones (bitAnd a R) (bitAnd b R) (λ q i. in-and (f q (and-in-l a R i)) (and-in-r a R i))
 
 -- a part with as many members as the whole is the whole
 whole-part : (a b : ℕ) → ones a ≤ ones (bitAnd a b) → bitAnd a b ≡ a

@@ -18,7 +18,7 @@ use Rattle.search.specs.Search.{Candidate, Met, NoCandidate, roleCountIn
 use Rattle.search.specs.Steps.{MetBy, Gathers, ConflictFree, NoneHolds, Gives, Asks, NoneFrom}
 use Rattle.search.specs.Steps.{NeededBy, WithinFrom, Joins, State, NoCompletion, NoneOfSize}
 use Rattle.common.specs.CountLaws.{ones-zero}
-use Rattle.search.proofs.Counts.{ones-and, same-members, role-count-zero, role-count-cat}
+use Rattle.search.proofs.Counts.{ones-and, within-ones, within-role-count, same-members, role-count-zero, role-count-cat}
 use Rattle.search.proofs.Sums.{met-by}
 use Rattle.search.proofs.Steps.{NoneWith, «with», top-small}
 
@@ -42,19 +42,12 @@ shift-from n a b f q i = shift-in n b (f .from (n + q) (omega arith) (in-shift n
 
 -- ---- a set that no candidate holds
 
-within-ones : (a b : ℕ) → Within a b → ones a ≤ ones b
-within-ones a b f = subst (λ (z : ℕ). ones z ≤ ones b) (and-comm b a ∙ within-and a b f) (ones-and b a)
-
-within-role-count : (r : Masks) (a b : ℕ) → Within a b → roleCountIn r a ≤ roleCountIn r b
-within-role-count r a b f =
-    within-ones (bitAnd a (r .«role_principals»)) (bitAnd b (r .«role_principals»)) (λ q i. in-and (f q (and-in-l a (r .«role_principals») i)) (and-in-r a (r .«role_principals») i))
-
 module _ {r : Masks} {limit : Limit} {s b : ℕ} where
   pub too-large : limit .members < ones s → NoneHolds r limit s b
   too-large l t h = omega (arith, h .few, within-ones s t (h .held))
 
   pub too-many : limit .«role_principals» < roleCountIn r s → NoneHolds r limit s b
-  too-many l t h = omega (arith, h .fewRoles, within-role-count r s t (h .held))
+  too-many l t h = omega (arith, h .fewRoles, within-role-count (r .«role_principals») s t (h .held))
 
   -- what s gives does not meet the guard, and there is no room for more
   pub no-room : {g : ℕ} → Gathers (r .count) s (r .grants) g → (MetBy (r .every) (r .wanted) g → ⊥) → limit .members ≤ ones s

@@ -17,7 +17,7 @@ use Rattle.search.specs.Search.Before.{by-members, by-role-count, by-num
 use Rattle.search.specs.Steps.{State, LeastCompletion, NoCompletion, Completed, LeastOfSize, NoneOfSize}
 use Rattle.common.specs.CountLaws.{ones-zero, no-ones, ones-top, power-double}
 use Rattle.common.specs.SetLaws.{le-or-lt, none-in-zero, or-in, pow-in, in-lt, in-ge, sum-in}
-use Rattle.search.proofs.Counts.{ones-and, role-count-zero, role-count-top}
+use Rattle.search.proofs.Counts.{ones-and, within-role-count, role-count-zero, role-count-top}
 
 module _ {r : Masks} {n c : ℕ} where
   pub chosen-alone : Candidate r c → LeastCompletion r n 0 0 c c
@@ -188,8 +188,10 @@ module _ {r : Masks} {k j : ℕ} (low : (t : ℕ) → Candidate r t → ones t �
       (λ l. omega arith)
       (eq-or-lt-of-le (low t d u))
 
-  pub past-roles : k < j → NoneOfSize r k
-  past-roles h = record { none = λ t d u. omega (arith, low t d u, ones-and t (r .«role_principals»)) }
+  -- and so many are not allowed
+  pub past-roles : {most : ℕ} → most ≡ roleCountIn r (r .allowed) → most < j → NoneOfSize r k
+  past-roles e h =
+      record { none = λ t d u. omega (arith, low t d u, within-role-count (r .«role_principals») t (r .allowed) (d .allowed)) }
 
 -- every candidate has k members or more
 module _ {r : Masks} {k : ℕ} (low : (t : ℕ) → Candidate r t → k ≤ ones t) where

@@ -1,10 +1,11 @@
 -- Laws of the order of sets, `Before`: what it says of two sets, and that it is a total order.
 use Prim.Native.Nat.{ℕ, _≤_, _<_}
-use mathlib.Core.Path.{_≡_, refl}
-use mathlib.Core.Logic.{_⊎_, inl, inr}
+use mathlib.Core.Path.{_≡_, refl, sym}
+use mathlib.Core.Logic.{_⊎_, inl, inr, ⊎-elim}
 use native.Mathlib.Omega.{arith}
-use native.Mathlib.Decide.{decLt}
+use native.Mathlib.Nat.{eq-or-lt-of-le}
 use lib.Count.{ones}
+use Rattle.common.specs.SetLaws.{le-or-lt}
 use Rattle.search.specs.Search.{Before}
 use Rattle.search.specs.Search.Before.{by-members, by-role-count, by-number}
 
@@ -27,6 +28,10 @@ module _ {roleCount : ℕ → ℕ} {s t : ℕ} where
   before-number q r (by-role-count e l) = omega arith
   before-number q r (by-number e f l) = l
 
+-- one number is below the other, or they are one
+three-ways : (a b : ℕ) → (a < b) ⊎ ((a ≡ b) ⊎ (b < a))
+three-ways a b = ⊎-elim (λ l. ⊎-elim (λ e. inr (inl e)) (λ m. inl m) (eq-or-lt-of-le l)) (λ l. inr (inr l)) (le-or-lt a b)
+
 module _ {roleCount : ℕ → ℕ} where
   pub before-refl : (s : ℕ) → Before roleCount s s
   before-refl s = by-number refl refl (omega arith)
@@ -40,25 +45,16 @@ module _ {roleCount : ℕ → ℕ} where
       omega (arith, before-number e f b, before-number d (omega arith) c)
 
   pub before-total : (s t : ℕ) → Before roleCount s t ⊎ Before roleCount t s
-  before-total s t = elim (decLt (ones s) (ones t)) [
-    | yes l ↦ inl (by-members l)
-    | no f ↦ elim (decLt (ones t) (ones s)) [
-      | yes l ↦ inr (by-members l)
-      | no g ↦ let e : ones s ≡ ones t = omega arith in same-size e
-    ]
-  ]
-    where
-      same-number : ones s ≡ ones t → roleCount s ≡ roleCount t → Before roleCount s t ⊎ Before roleCount t s
-      same-number e h = elim (decLt s t) [ yes l ↦ inl (by-number e h (omega arith)) | no g ↦ inr (by-number (omega arith) (omega arith) (omega arith)) ]
-
-      same-size : ones s ≡ ones t → Before roleCount s t ⊎ Before roleCount t s
-      same-size e = elim (decLt (roleCount s) (roleCount t)) [
-        | yes l ↦ inl (by-role-count e l)
-        | no g ↦ elim (decLt (roleCount t) (roleCount s)) [
-          | yes l ↦ inr (by-role-count (omega arith) l)
-          | no h ↦ same-number e (omega arith)
-        ]
-      ]
+  before-total s t =
+      ⊎-elim (λ l. inl (by-members l))
+      (⊎-elim
+      (λ e. ⊎-elim (λ l. inl (by-role-count e l))
+      (⊎-elim
+      (λ f. ⊎-elim (λ l. inl (by-number e f l)) (λ l. inr (by-number (sym e) (sym f) (omega arith))) (le-or-lt s t))
+      (λ l. inr (by-role-count (sym e) l)))
+      (three-ways (roleCount s) (roleCount t)))
+      (λ l. inr (by-members l)))
+      (three-ways (ones s) (ones t))
 
 -- counts that agree on two sets order them alike
 pub before-counts : (a b : ℕ → ℕ) {s t : ℕ} → a s ≡ b s → a t ≡ b t → Before a s t → Before b s t

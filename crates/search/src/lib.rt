@@ -8,19 +8,19 @@
 ghost use mathlib.Core.Path.{_≡_};
 ghost use mathlib.Core.Bool.{true, false};
 ghost use Prim.Native.Nat.{ℕ, _+_, _^_, _≤_, _<_};
-ghost use lib.Bits.{bitOr};
+ghost use lib.Bits.{bitAnd, bitOr};
 ghost use lib.Count.{ones};
 ghost use Rattle.common.specs.Limits.{mostPrincipals, mostRelated};
 ghost use Rattle.common.specs.Lists.{at};
 ghost use Rattle.common.specs.Sets.{In, Apart, Within};
 ghost use Rattle.search.specs.Answers.{foundValues};
-ghost use Rattle.search.specs.Search.{ConsistentIn, Consistent, Met, Candidate, Least, roleCountIn};
+ghost use Rattle.search.specs.Search.{ConsistentIn, Consistent, Met, Candidate, Least};
 ghost use Rattle.search.specs.Steps.{Decides, MetBy, Gathers, ConflictFree, NoneHolds, Asks, NoneFrom, NeededBy};
 ghost use Rattle.search.specs.Steps.{WithinFrom, Joins, State, Completed, OfSize};
 use common::MOST_PRINCIPALS;
 use common::MOST_RELATED;
 
-// The constraints and privileges of each principal, the principals that are allowed, and the guard.
+// The constraints and privileges of each principal, the principals that are allowed, those that are role principals, and the guard.
 pub struct Masks {
     pub count: usize,
     pub allowed: u32,
@@ -97,20 +97,20 @@ fn with(c: u32, m: usize) -> u32
     c + (1u32 << m)
 }
 
-// How many members of s are role principals.
-fn role_count(masks: Masks, s: u32) -> usize
-    ensures { λ r. ⌜ (r ≡ roleCountIn masks s) × (r ≤ 32) ⌝ }
+// How many members of s are role principals, of which the set is given.
+fn role_count(role_principals: u32, s: u32) -> usize
+    ensures { λ r. ⌜ (r ≡ ones (bitAnd s «role_principals»)) × (r ≤ 32) ⌝ }
 {
-    u32::count_ones(s & masks.role_principals) as usize
+    u32::count_ones(s & role_principals) as usize
 }
 
 // How many role principals m is: 1 or 0.
-fn role_count_of(masks: Masks, m: usize) -> usize
+fn role_count_of(role_principals: u32, m: usize) -> usize
     requires { ⌜ m < mostPrincipals ⌝ }
-    ensures { λ r. ⌜ r ≡ roleCountIn masks (2 ^ m) ⌝ }
+    ensures { λ r. ⌜ r ≡ ones (bitAnd (2 ^ m) «role_principals») ⌝ }
 {
     let alone = with(0, m);
-    role_count(masks, alone)
+    role_count(role_principals, alone)
 }
 
 // The set w with what m needs added.
@@ -249,7 +249,7 @@ fn admissible(masks: Masks, limit: Limit, s: u32, barred: u32) -> bool
     if limit.members < size {
         return false;
     }
-    if limit.role_principals < role_count(masks, s) {
+    if limit.role_principals < role_count(masks.role_principals, s) {
         return false;
     }
     if !apart(s, barred) {
@@ -258,7 +258,7 @@ fn admissible(masks: Masks, limit: Limit, s: u32, barred: u32) -> bool
     allowed_together(masks, s)
 }
 
-// Of the wanted privileges that are not granted, one that fewest principals can give; six of these count as many. Any answer will do.
+// Of the wanted privileges that are not granted, one that fewest principals can give; six and more are not told apart. Any answer will do.
 fn rarest(masks: Masks, chosen: u32, granted: u64, barred: u32) -> u64
     requires { ⌜ masks .count ≤ mostPrincipals ⌝ }
 {
@@ -274,7 +274,14 @@ fn rarest(masks: Masks, chosen: u32, granted: u64, barred: u32) -> u64
     let mut six: u64 = 0;
     let mut p: usize = 0;
     while p < count {
-        let g = open_grants(free, chosen, masks.excludes[p], masks.grants[p], p);
+        let g = open_grants(
+            free,
+            chosen,
+            masks.needs[p],
+            masks.excludes[p],
+            masks.grants[p],
+            p,
+        );
         six = six | (five & g);
         five = five | (four & g);
         four = four | (three & g);
@@ -287,13 +294,15 @@ fn rarest(masks: Masks, chosen: u32, granted: u64, barred: u32) -> u64
     lowest(first_of(few, unmet & !five, unmet & !six, unmet))
 }
 
-// What p gives, where p is free and excludes none of the chosen ones.
-fn open_grants(free: u32, chosen: u32, excludes: u32, grants: u64, p: usize) -> u64
+// What p gives, where p and those it needs are free, and it excludes none of these and of the chosen ones.
+fn open_grants(free: u32, chosen: u32, needs: u32, excludes: u32, grants: u64, p: usize) -> u64
     requires { ⌜ p < mostPrincipals ⌝ }
 {
     if has(free, p) {
-        if apart(chosen, excludes) {
-            return grants;
+        if within(needs, free) {
+            if apart(chosen | needs, excludes) {
+                return grants;
+            }
         }
     }
     0
@@ -332,7 +341,8 @@ fn asked(masks: Masks, chosen: u32, granted: u64, barred: u32) -> u64
     masks.wanted
 }
 
-// False only where no candidate within the limit holds chosen, whose members give granted, and none of barred.
+// False only where no candidate within the limit holds chosen, whose members give granted, and none of barred. Where the guard is not met
+// and there is no room for one more member, no giver is tried.
 fn possible(
     masks: Masks,
     limit: Limit,
@@ -436,13 +446,13 @@ fn joins(masks: Masks, c: u32, m: usize) -> bool
 }
 
 // What the chosen ones come to with k more principals, j of them role principals.
-fn limit_with(masks: Masks, chosen: u32, k: usize, j: usize) -> Limit
+fn limit_with(role_principals: u32, chosen: u32, k: usize, j: usize) -> Limit
     requires { ⌜ (k ≤ mostPrincipals) × (j ≤ mostPrincipals) ⌝ }
-    ensures { λ r. ⌜ (r .members ≡ ones chosen + k) × (r .«role_principals» ≡ roleCountIn masks chosen + j) ⌝ }
+    ensures { λ r. ⌜ (r .members ≡ ones chosen + k) × (r .«role_principals» ≡ ones (bitAnd chosen «role_principals») + j) ⌝ }
 {
     Limit {
         members: (u32::count_ones(chosen) as usize) + k,
-        role_principals: role_count(masks, chosen) + j,
+        role_principals: role_count(role_principals, chosen) + j,
     }
 }
 
@@ -473,7 +483,7 @@ fn search(
     if n < k {
         return Found::Nothing;
     }
-    let limit = limit_with(masks, chosen, k, j);
+    let limit = limit_with(masks.role_principals, chosen, k, j);
     if !feasible(masks, limit, chosen | needed, barred) {
         return Found::Nothing;
     }
@@ -488,7 +498,7 @@ fn search(
     if !joins(masks, chosen, m) {
         return Found::Nothing;
     }
-    let added = role_count_of(masks, m);
+    let added = role_count_of(masks.role_principals, m);
     if j < added {
         return Found::Nothing;
     }
@@ -497,22 +507,25 @@ fn search(
     search(masks, m, k - 1, j - added, grown, wants, barred)
 }
 
-// The least candidate of k members: the fewest role principals first. Whether there is any is asked before, so that a size costs one
-// test where there is none.
+// The least candidate of k members: the fewest role principals first, of those that are allowed. Where there are any, it is asked before
+// whether the size has a candidate at all, so that one without costs one test.
 fn of_size(masks: Masks, k: usize) -> Found
     requires { ⌜ (masks .count ≤ mostPrincipals) × (k ≤ mostPrincipals) ⌝ }
     ensures { λ r. ⌜ OfSize masks k (foundValues r) ⌝ }
 {
-    let limit = Limit {
-        members: k,
-        role_principals: k,
-    };
-    if !feasible(masks, limit, 0, 0) {
-        return Found::Nothing;
+    let most = role_count(masks.role_principals, masks.allowed);
+    if most != 0 {
+        let limit = Limit {
+            members: k,
+            role_principals: k,
+        };
+        if !feasible(masks, limit, 0, 0) {
+            return Found::Nothing;
+        }
     }
     let count = masks.count;
     let mut j: usize = 0;
-    while j <= k {
+    while j <= most {
         let found = search(masks, count, k, j, 0, 0, 0);
         if let Found::Set(s) = found {
             return Found::Set(s);

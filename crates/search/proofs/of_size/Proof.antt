@@ -14,19 +14,23 @@ use Rattle.search.proofs.Prunes.{none-of-size}
 use Rattle.search.proofs.of_size.Statement.{statement}
 use Rattle.search.proofs.of_size.Tie as tie
 use Rattle.search.proofs.feasible.Reads as feasible-reads
+use Rattle.search.proofs.role_count.Reads as role-count-reads
 use Rattle.search.proofs.search.Reads as search-reads
 
 abbrev Inv-loop : tie.InvT-loop
-Inv-loop masks k count j₀ j = ((t : ℕ) → Candidate masks t → ones t ≡ k → j ≤ roleCountIn masks t) × (j ≤ k + 1)
+Inv-loop masks k most count j₀ j = ((t : ℕ) → Candidate masks t → ones t ≡ k → j ≤ roleCountIn masks t) × (j ≤ most + 1)
 
 abbrev μ-loop : tie.MeasureT-loop
-μ-loop masks k count j₀ j = k + 1 - j
+μ-loop masks k most count j₀ j = most + 1 - j
+
+role-count-requires : tie.Need-role-count-requires Inv-loop μ-loop
+role-count-requires c κs = search needs
 
 feasible-requires : tie.Need-feasible-requires Inv-loop μ-loop
-feasible-requires c κs = c .pre .0
+feasible-requires c κs = c .before .before .pre .0
 
 returns : tie.Need-returns Inv-loop μ-loop
-returns c = denies refl (none-of-size (c .before .feasible .ensures (not-true _ (c .if1 .taken))) (omega arith) (omega arith))
+returns c = denies refl (none-of-size (c .before .feasible .ensures (not-true _ (c .if2 .taken))) (omega arith) (omega arith))
 
 loop-holds : tie.Need-loop-holds Inv-loop μ-loop
 loop-holds c = (λ t d o. zero-le, omega arith)
@@ -58,7 +62,7 @@ loop-again c =
     (more-roles (called .before .before .loop .inv .0) (found-nothing (called .search .ensures) (c .enum-told .given .1)), omega arith)
 
 returns-3 : tie.Need-returns-3 Inv-loop μ-loop
-returns-3 c = denies refl (past-roles (c .before .loop .inv .0) (omega arith))
+returns-3 c = denies refl (past-roles (c .before .loop .inv .0) (c .before .before .before .role-count .ensures .0) (omega arith))
 
 pub of-size-spec : {M : Type 1} → statement M
 of-size-spec =
@@ -66,6 +70,7 @@ of-size-spec =
     (tie.spec
     Inv-loop
     μ-loop
+    role-count-requires
     feasible-requires
     returns
     loop-holds

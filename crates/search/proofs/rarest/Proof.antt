@@ -28,6 +28,12 @@ mul-open-grants-2 c = search needs
 element-copy-out-open-grants-2 : tie.Need-element-copy-out-open-grants-2 Inv-loop μ-loop
 element-copy-out-open-grants-2 c = search needs
 
+mul-open-grants-3 : tie.Need-mul-open-grants-3 Inv-loop μ-loop
+mul-open-grants-3 c = search needs
+
+element-copy-out-open-grants-3 : tie.Need-element-copy-out-open-grants-3 Inv-loop μ-loop
+element-copy-out-open-grants-3 c = search needs
+
 open-grants-requires : tie.Need-open-grants-requires Inv-loop μ-loop
 open-grants-requires c κs = search needs
 
@@ -63,6 +69,8 @@ rarest-spec =
     element-copy-out-open-grants
     mul-open-grants-2
     element-copy-out-open-grants-2
+    mul-open-grants-3
+    element-copy-out-open-grants-3
     open-grants-requires
     add-p
     loop-less
