@@ -1,18 +1,18 @@
 // The eager and the lazy question: a record, a method, an object and a requestor; the least set of grounds that will do, or 17.
 
 ghost use Rattle.std.specs.Prelude.{◌≡◌, ℕ, ◌+◌, ◌≤◌};
-ghost use Rattle.common.specs.Limits.{mostPrincipals};
+ghost use Rattle.common.specs.Limits.{most_principals};
 ghost use Rattle.common.specs.Sets.{member};
 ghost use Rattle.edge_index.specs.Index.{Indexed};
 ghost use Rattle.policy.specs.declared.Record as records;
 ghost use Rattle.policy.specs.Loadable as validity;
 ghost use Rattle.policy.specs.Typed.{Typed};
 ghost use Rattle.justification.specs.Justification as justifications;
-ghost use Rattle.search.specs.Answers.{foundValues};
-ghost use Rattle.justification.specs.Masked.{Masked, leastValues};
-ghost use Rattle.vertices.specs.Steps.{edgesIn};
-ghost use Rattle.formula.specs.Evaluation.{formulasIn, context_of};
-ghost use Rattle.memo.specs.Lent.{FormulasFit, Principals, truthIn};
+ghost use Rattle.search.specs.Answers.{found_values};
+ghost use Rattle.justification.specs.Masked.{Masked, least_values};
+ghost use Rattle.vertices.specs.Steps.{edges_in};
+ghost use Rattle.formula.specs.Evaluation.{formulas_in, context_of};
+ghost use Rattle.memo.specs.Lent.{FormulasFit, Principals, truth_in};
 ghost use Rattle.memo.specs.Walk as walks;
 ghost use Rattle.access.specs.Access as access;
 
@@ -101,9 +101,9 @@ pub fn answer_of(rules: Record, decision: Decision) -> Answer
 
 // The least candidate of the masks' record and method among other allowed principals.
 fn least_among(masks: Masks, allowed: u32) -> Found
-    requires { masks.count ≤ mostPrincipals }
+    requires { masks.count ≤ most_principals }
     ensures { (rules : records.Record) (m a : ℕ) → Masked rules m a masks
-        → foundValues result ≡ leastValues (justifications.least rules m (λ p. member p allowed)) }
+        → found_values result ≡ least_values (justifications.least rules m (λ p. member p allowed)) }
 {
     let mut open = masks;
     open.allowed = allowed;
@@ -295,12 +295,12 @@ fn searches<'a>(
     requestor: u8,
 ) -> Decision
     requires { Indexed edge_count labels.now sources.now targets.now firsts.now counts.now places.now
-        × FormulasFit count formulas.now × (masks.count ≤ mostPrincipals) }
+        × FormulasFit count formulas.now × (masks.count ≤ most_principals) }
     ensures { (rules : records.Record) (m : ℕ) → Principals count formulas.now rules → Masked rules m 0 masks
         → access.leaves rules result ≡ access.answered rules before (walks.searching (rules.principal_count + 1)
-        (truthIn (context_of roles object requestor
-        (edgesIn edge_count labels.now sources.now targets.now))
-        (formulasIn ops.now lefts.now rights.now)) rules m before) }
+        (truth_in (context_of roles object requestor
+        (edges_in edge_count labels.now sources.now targets.now))
+        (formulas_in ops.now lefts.now rights.now)) rules m before) }
 {
     let mut memo = before;
     let mut rounds: usize = 0;

@@ -9,59 +9,59 @@ use Rattle.octets.specs.Line.{text_of, totals}
 use Rattle.policy.specs.declared.Record.{Record}
 use Rattle.policy.specs.Table.{Kind, head, user, edge, formula, demarcation, hierarchy, principal, exclusion, prerequisite, method, end}
 use Rattle.policy.specs.Table.{kinds}
-use Rattle.policy.specs.LinesBefore.{linesBefore}
+use Rattle.policy.specs.LinesBefore.{lines_before}
 use Rattle.policy.specs.Loadable.{loadable}
 use Rattle.writing.specs.declared.Draft.{Draft}
 use Rattle.writing.specs.Drafts.{RoomFor, Put}
-use Rattle.writing.specs.DraftLaws.{text-append, put-join, put-length}
-use Rattle.bundle.specs.Writing.{lineOctets, tableLines, ruleLines, withEnd, bundleOf}
-use Rattle.bundle.specs.WriterParts.{graphLines, groundLines, start, Room}
-use Rattle.bundle.specs.LengthLaws.{end-size, rules-few}
+use Rattle.writing.specs.DraftLaws.{text_append, put_join, put_length}
+use Rattle.bundle.specs.Writing.{line_octets, table_lines, rule_lines, with_end, bundle_of}
+use Rattle.bundle.specs.WriterParts.{graph_lines, ground_lines, start, Room}
+use Rattle.bundle.specs.LengthLaws.{end_size, rules_few}
 
-rules-append : (ks js : List Kind) (r : Record) → ruleLines (ks ++ js) r ≡ ruleLines ks r ++ ruleLines js r
-rules-append [] js r = refl
-rules-append (k ∷ ks) js r =
-    ap (λ (ls : List (List ℕ)). tableLines k r ++ ls) (rules-append ks js r)
-    ∙ sym (append_assoc (tableLines k r) (ruleLines ks r) (ruleLines js r))
+rules_append : (ks js : List Kind) (r : Record) → rule_lines (ks ++ js) r ≡ rule_lines ks r ++ rule_lines js r
+rules_append [] js r = refl
+rules_append (k ∷ ks) js r =
+    ap (λ (ls : List (List ℕ)). table_lines k r ++ ls) (rules_append ks js r)
+    ∙ sym (append_assoc (table_lines k r) (rule_lines ks r) (rule_lines js r))
 
 module _ (r : Record) where
-  parts : ruleLines kinds r ≡ graphLines r ++ groundLines r
-  parts = rules-append (head ∷ user ∷ edge ∷ formula ∷ demarcation ∷ []) (hierarchy ∷ principal ∷ exclusion ∷ prerequisite ∷ method ∷ []) r
+  parts : rule_lines kinds r ≡ graph_lines r ++ ground_lines r
+  parts = rules_append (head ∷ user ∷ edge ∷ formula ∷ demarcation ∷ []) (hierarchy ∷ principal ∷ exclusion ∷ prerequisite ∷ method ∷ []) r
 
-  lengths : length (bundleOf r) ≡ length (text_of (graphLines r)) + length (text_of (groundLines r)) + 19
-  unfolding bundleOf
+  lengths : length (bundle_of r) ≡ length (text_of (graph_lines r)) + length (text_of (ground_lines r)) + 19
+  unfolding bundle_of
   lengths =
-      let ls = ruleLines kinds r in
+      let ls = rule_lines kinds r in
       let v = length ls ∷ totals ls ∷ [] in
-      ap length (text-append ls (lineOctets end v ∷ [])) ∙ length-append (text_of ls) (text_of (lineOctets end v ∷ []))
+      ap length (text_append ls (line_octets end v ∷ [])) ∙ length-append (text_of ls) (text_of (line_octets end v ∷ []))
       ∙ (let p = ap (λ (ms : List (List ℕ)). length (text_of ms)) parts in
-      let q = ap length (text-append (graphLines r) (groundLines r)) ∙ length-append (text_of (graphLines r)) (text_of (groundLines r)) in
-      let e = end-size (length (ruleLines kinds r) ∷ totals (ruleLines kinds r) ∷ []) in
+      let q = ap length (text_append (graph_lines r) (ground_lines r)) ∙ length-append (text_of (graph_lines r)) (text_of (ground_lines r)) in
+      let e = end_size (length (rule_lines kinds r) ∷ totals (rule_lines kinds r) ∷ []) in
       omega arith)
 
   module _ (loads : loadable r ≡ true) where
-    counts : length (graphLines r) + length (groundLines r) ≤ linesBefore end
-    counts = let n = ap length parts ∙ length-append (graphLines r) (groundLines r) in omega (arith, rules-few r loads kinds)
+    counts : length (graph_lines r) + length (ground_lines r) ≤ lines_before end
+    counts = let n = ap length parts ∙ length-append (graph_lines r) (ground_lines r) in omega (arith, rules_few r loads kinds)
 
-    module _ {b : List ℕ} (fits : length (bundleOf r) ≤ length b) where
-      pub room-start : Room b start (graphLines r)
-      room-start = let l = lengths in let n = counts in record { room = omega arith; few = omega arith; fair = omega arith }
+    module _ {b : List ℕ} (fits : length (bundle_of r) ≤ length b) where
+      pub room_start : Room b start (graph_lines r)
+      room_start = let l = lengths in let n = counts in record { room = omega arith; few = omega arith; fair = omega arith }
 
-      module _ {c : List ℕ} {d : Draft} (p : Put b c start d (graphLines r)) where
-        pub room-grounds : Room c d (groundLines r)
-        room-grounds =
+      module _ {c : List ℕ} {d : Draft} (p : Put b c start d (graph_lines r)) where
+        pub room_grounds : Room c d (ground_lines r)
+        room_grounds =
             let l = lengths in
             let n = counts in
-            let same : length c ≡ length b = put-length (omega (arith, p.offset)) p in
+            let same : length c ≡ length b = put_length (omega (arith, p.offset)) p in
             record { room = omega (arith, p.offset); few = omega (arith, p.lines); fair = omega (arith, p.lines, p.sum, p.fair) }
 
-        module _ {a : List ℕ} {e : Draft} (q : Put c a d e (groundLines r)) where
-          pub room-end : RoomFor a e 1 19
-          room-end =
+        module _ {a : List ℕ} {e : Draft} (q : Put c a d e (ground_lines r)) where
+          pub room_end : RoomFor a e 1 19
+          room_end =
               let l = lengths in
               let n = counts in
-              let same : length c ≡ length b = put-length (omega (arith, p.offset)) p in
-              let again : length a ≡ length c = put-length (omega (arith, p.offset, q.offset)) q in
+              let same : length c ≡ length b = put_length (omega (arith, p.offset)) p in
+              let again : length a ≡ length c = put_length (omega (arith, p.offset, q.offset)) q in
               record {
                 room = omega (arith, p.offset, q.offset);
                 few = omega (arith, p.lines, q.lines);
@@ -69,27 +69,27 @@ module _ (r : Record) where
                     (arith, p.lines, p.sum, p.fair, q.lines, q.sum, q.fair);
               }
 
-          all : Put b a start e (ruleLines kinds r)
-          all = subst (Put b a start e) (sym parts) (put-join (omega arith) p q)
+          all : Put b a start e (rule_lines kinds r)
+          all = subst (Put b a start e) (sym parts) (put_join (omega arith) p q)
 
           -- THE LAW: the three parts written one after another are the bundle, and past it the buffer is as it was
-          pub whole : {z : List ℕ} {f : Draft} → Put a z e f (lineOctets end (e.lines ∷ e.sum ∷ []) ∷ [])
-              → z ≡ bundleOf r ++ drop (length (bundleOf r)) b
-          unfolding bundleOf
+          pub whole : {z : List ℕ} {f : Draft} → Put a z e f (line_octets end (e.lines ∷ e.sum ∷ []) ∷ [])
+              → z ≡ bundle_of r ++ drop (length (bundle_of r)) b
+          unfolding bundle_of
           whole {z} {f} u =
-              let ls = ruleLines kinds r in
+              let ls = rule_lines kinds r in
               let n : e.lines ≡ length ls = omega (arith, all.lines) in
               let m : e.sum ≡ totals ls = omega (arith, all.sum) in
-              let last : lineOctets end (e.lines ∷ e.sum ∷ []) ∷ [] ≡ lineOctets end (length ls ∷ totals ls ∷ []) ∷ [] =
-              λ j. lineOctets end (n j ∷ m j ∷ []) ∷ [] in
-              let w = put-join (omega arith) all (subst (Put a z e f) last u) in
-              let end-offset : f.offset ≡ length (text_of (withEnd ls)) = omega (arith, w.offset) in
-              w.bytes ∙ ap (λ (k : ℕ). text_of (withEnd ls) ++ drop k b) end-offset
+              let last : line_octets end (e.lines ∷ e.sum ∷ []) ∷ [] ≡ line_octets end (length ls ∷ totals ls ∷ []) ∷ [] =
+              λ j. line_octets end (n j ∷ m j ∷ []) ∷ [] in
+              let w = put_join (omega arith) all (subst (Put a z e f) last u) in
+              let end-offset : f.offset ≡ length (text_of (with_end ls)) = omega (arith, w.offset) in
+              w.bytes ∙ ap (λ (k : ℕ). text_of (with_end ls) ++ drop k b) end-offset
 
-          pub whole_length : {z : List ℕ} {f : Draft} → Put a z e f (lineOctets end (e.lines ∷ e.sum ∷ []) ∷ []) → length z ≡ length b
+          pub whole_length : {z : List ℕ} {f : Draft} → Put a z e f (line_octets end (e.lines ∷ e.sum ∷ []) ∷ []) → length z ≡ length b
           whole_length u =
               let l = lengths in
-              let s = end-size (e.lines ∷ e.sum ∷ []) in
-              let same : length c ≡ length b = put-length (omega (arith, p.offset)) p in
-              let again : length a ≡ length c = put-length (omega (arith, p.offset, q.offset)) q in
-              put-length (omega (arith, p.offset, q.offset, u.offset)) u ∙ again ∙ same
+              let s = end_size (e.lines ∷ e.sum ∷ []) in
+              let same : length c ≡ length b = put_length (omega (arith, p.offset)) p in
+              let again : length a ≡ length c = put_length (omega (arith, p.offset, q.offset)) q in
+              put_length (omega (arith, p.offset, q.offset, u.offset)) u ∙ again ∙ same

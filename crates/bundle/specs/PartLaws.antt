@@ -7,12 +7,12 @@ use Rattle.edge_index.specs.declared.EdgeIndex.{EdgeIndex}
 use Rattle.policy.specs.declared.Record.{Record}
 use Rattle.policy.specs.declared.Memo.{Memo}
 use Rattle.policy.specs.Table.{Kind, head, user, edge, formula, demarcation, hierarchy, principal, exclusion, prerequisite, method, end}
-use Rattle.policy.specs.Table.{code, isKind, count, columns, room, row, emptied, blank, appended, index_of, withMemo, withIndex, indexed}
-use Rattle.policy.specs.TableLaws.{ColumnLengths, same_kind, written, count-other, columns-other, count_same, columns-same}
-use Rattle.policy.specs.GrowthLaws.{blank-empty}
+use Rattle.policy.specs.Table.{code, is_kind, count, columns, room, row, emptied, blank, appended, index_of, with_memo, with_index, indexed}
+use Rattle.policy.specs.TableLaws.{ColumnLengths, same_kind, written, count_other, columns_other, count_same, columns_same}
+use Rattle.policy.specs.GrowthLaws.{blank_empty}
 use Rattle.policy.specs.Loadable.{loadable}
-use Rattle.policy.specs.LoadableLaws.{loadable-table, own-index, table-zero}
-use Rattle.bundle.specs.CutLaws.{cut, columns-none, columns-more, columns-at, columns-all}
+use Rattle.policy.specs.LoadableLaws.{loadable_table, own_index, table_zero}
+use Rattle.bundle.specs.CutLaws.{cut, columns_none, columns_more, columns_at, columns_all}
 use Rattle.bundle.specs.CheckLaws.{Agree}
 
 -- kind j's table in p: the first n of its lines in r
@@ -33,14 +33,14 @@ pub record Part (r : Record) (k : Kind) (i : ℕ) (p : Record) : Type 0 where
   pub here : FirstLines r k i p
   pub after : (j : Kind) → code k < code j → FirstLines r j 0 p
 
-pub objects-same : {r p : Record} → FirstLines r head 1 p → p.objects ≡ r.objects
-objects-same f = ap (λ (cs : List (List ℕ)). at (get_or cs 1 []) 0) f.cuts
+pub objects_same : {r p : Record} → FirstLines r head 1 p → p.objects ≡ r.objects
+objects_same f = ap (λ (cs : List (List ℕ)). at (get_or cs 1 []) 0) f.cuts
 
-first-other : {r : Record} {n : ℕ} {p : Record} (k j : Kind) (v : List ℕ) → (code k ≡ code j → ⊥) → FirstLines r j n p
+first_other : {r : Record} {n : ℕ} {p : Record} (k j : Kind) (v : List ℕ) → (code k ≡ code j → ⊥) → FirstLines r j n p
     → FirstLines r j n (appended k p v)
-first-other {p = p} k j v e f =
-    let o : isKind k j ≡ false = ne_eqb (code k) (code j) e in
-    record { counted = count-other k j p v o ∙ f.counted; cuts = columns-other k j p v o ∙ f.cuts }
+first_other {p = p} k j v e f =
+    let o : is_kind k j ≡ false = ne_eqb (code k) (code j) e in
+    record { counted = count_other k j p v o ∙ f.counted; cuts = columns_other k j p v o ∙ f.cuts }
 
 first_more : {r : Record} {i : ℕ} {p : Record} (k : Kind) → code head < code k → code k < code end → ColumnLengths r → i < room k → FirstLines r k i p
     → FirstLines r k (suc i) (appended k p (row k i r))
@@ -49,36 +49,36 @@ first_more {r} {i} {p} k l h s few f =
     record {
       counted = count_same k p v l h ∙ ap (λ (n : ℕ). n + 1) f.counted ∙ add-one i;
       cuts =
-          columns-same k p v l h ∙ (λ t. written (f.cuts t) (f.counted t) v 0)
-          ∙ columns-more i (room k) few (columns k r) (s.long k) v 0 (λ j. ap (at v) (zero-add j));
+          columns_same k p v l h ∙ (λ t. written (f.cuts t) (f.counted t) v 0)
+          ∙ columns_more i (room k) few (columns k r) (s.long k) v 0 (λ j. ap (at v) (zero-add j));
     }
 
 -- ---- a line more, in the middle of a kind
 
 module _ {r : Record} {k : Kind} {i : ℕ} {p : Record} (part : Part r k i p) (low : code head < code k) where
   -- the next line is held to the same as in the whole record
-  pub part-agrees : Agree k i p r
-  part-agrees =
+  pub part_agrees : Agree k i p r
+  part_agrees =
       record {
-        objects = objects-same (part.before head low);
+        objects = objects_same (part.before head low);
         counts = λ j l. (part.before j l).counted;
-        above = λ m l. ap (map (λ c. at c m)) part.here.cuts ∙ columns-at i m l (columns k r);
+        above = λ m l. ap (map (λ c. at c m)) part.here.cuts ∙ columns_at i m l (columns k r);
       }
 
-  pub part-more : code k < code end → ColumnLengths r → i < room k → Part r k (suc i) (appended k p (row k i r))
+  pub part_more : code k < code end → ColumnLengths r → i < room k → Part r k (suc i) (appended k p (row k i r))
   unfolding appended
-  part-more high s few =
+  part_more high s few =
       record {
         memo = part.memo;
-        before = λ j l. first-other k j (row k i r) (λ e. omega arith) (part.before j l);
+        before = λ j l. first_other k j (row k i r) (λ e. omega arith) (part.before j l);
         here = first_more k low high s few part.here;
-        after = λ j l. first-other k j (row k i r) (λ e. omega arith) (part.after j l);
+        after = λ j l. first_other k j (row k i r) (λ e. omega arith) (part.after j l);
       }
 
 -- ---- from kind to kind
 
-pub part-start : {r p : Record} {c : ℕ} (k : Kind) → code k ≡ c → Whole r c p → Part r k 0 p
-part-start k e w =
+pub part_start : {r p : Record} {c : ℕ} (k : Kind) → code k ≡ c → Whole r c p → Part r k 0 p
+part_start k e w =
     record {
       memo = w.memo;
       before = λ j l. w.before j (omega arith);
@@ -86,8 +86,8 @@ part-start k e w =
       after = λ j l. w.after j (omega arith);
     }
 
-first-all : {r p : Record} {k : Kind} → loadable r ≡ true → FirstLines r k (count k r) p → columns k p ≡ columns k r
-first-all {r} {p} {k} loads f = f.cuts ∙ columns-all (count k r) (columns k r) (table-zero r k (loadable-table r loads k))
+first_all : {r p : Record} {k : Kind} → loadable r ≡ true → FirstLines r k (count k r) p → columns k p ≡ columns k r
+first_all {r} {p} {k} loads f = f.cuts ∙ columns_all (count k r) (columns k r) (table_zero r k (loadable_table r loads k))
 
 pub part_end : {r p : Record} {c : ℕ} (k : Kind) → code k ≡ c → Part r k (count k r) p → Whole r (c + 1) p
 part_end {r} {p} {c} k e part =
@@ -99,31 +99,31 @@ part_end {r} {p} {c} k e part =
 
 -- ---- after the head
 
-blank-columns : (r : Record) (j : Kind) → code head < code j → columns j blank ≡ map (λ c. replicate (room j) 0) (columns j r)
+blank_columns : (r : Record) (j : Kind) → code head < code j → columns j blank ≡ map (λ c. replicate (room j) 0) (columns j r)
 unfolding blank
-blank-columns r head l = absurd (omega arith)
-blank-columns r user l = refl
-blank-columns r edge l = refl
-blank-columns r formula l = refl
-blank-columns r demarcation l = refl
-blank-columns r hierarchy l = refl
-blank-columns r principal l = refl
-blank-columns r exclusion l = refl
-blank-columns r prerequisite l = refl
-blank-columns r method l = refl
-blank-columns r end l = refl
+blank_columns r head l = absurd (omega arith)
+blank_columns r user l = refl
+blank_columns r edge l = refl
+blank_columns r formula l = refl
+blank_columns r demarcation l = refl
+blank_columns r hierarchy l = refl
+blank_columns r principal l = refl
+blank_columns r exclusion l = refl
+blank_columns r prerequisite l = refl
+blank_columns r method l = refl
+blank_columns r end l = refl
 
-first-blank : (r : Record) → ColumnLengths r → (j : Kind) → code head < code j → FirstLines r j 0 blank
-first-blank r s j l =
-    record { counted = blank-empty j l; cuts = blank-columns r j l ∙ columns-none (room j) (columns j r) (s.long j) }
+first_blank : (r : Record) → ColumnLengths r → (j : Kind) → code head < code j → FirstLines r j 0 blank
+first_blank r s j l =
+    record { counted = blank_empty j l; cuts = blank_columns r j l ∙ columns_none (room j) (columns j r) (s.long j) }
 
-pub whole-head : (r : Record) → ColumnLengths r → Whole r 2 (appended head blank (row head 0 r))
+pub whole_head : (r : Record) → ColumnLengths r → Whole r 2 (appended head blank (row head 0 r))
 unfolding appended blank
-whole-head r s =
+whole_head r s =
     record {
       memo = refl;
       before = each;
-      after = λ j l. first-other head j (row head 0 r) (λ e. omega arith) (first-blank r s j l);
+      after = λ j l. first_other head j (row head 0 r) (λ e. omega arith) (first_blank r s j l);
     }
   where
     each : (j : Kind) → code j < 2 → FirstLines r j (count j r) (appended head blank (row head 0 r))
@@ -145,10 +145,10 @@ whole-head r s =
 abbrev Same : Record → Record → Kind → Type 0
 Same p r k = (count k p ≡ count k r) × (columns k p ≡ columns k r)
 
-same-record : (p r : Record) (m : Memo) {y : EdgeIndex} → p.objects ≡ r.objects → y ≡ r.index → p.memo ≡ m
-    → ((k : Kind) → code k < 0x0B → Same p r k) → withIndex p y ≡ withMemo r m
-unfolding withMemo withIndex
-same-record p r m o y e same =
+same_record_lem : (p r : Record) (m : Memo) {y : EdgeIndex} → p.objects ≡ r.objects → y ≡ r.index → p.memo ≡ m
+    → ((k : Kind) → code k < 0x0B → Same p r k) → with_index p y ≡ with_memo r m
+unfolding with_memo with_index
+same_record_lem p r m o y e same =
     let u = same user (omega arith) in
     let g = same edge (omega arith) in
     let f = same formula (omega arith) in
@@ -193,11 +193,11 @@ same-record p r m o y e same =
     }
 
 -- once all kinds are whole and the index is built, only the memo is another: the edges are the same, and so is their index
-pub whole-all : (r p : Record) → loadable r ≡ true → Whole r 0x0B p → indexed p ≡ withMemo r (emptied 0 0)
-whole-all r p loads w =
-    same-record p r (emptied 0 0) (objects-same (w.before head (omega arith)))
-    ((λ t. index_of (table (edges.counted t) (λ i. map (λ c. at c i) (first-all loads edges t)))) ∙ sym (own-index r loads)) w.memo
-    (λ k l. ((w.before k l).counted, first-all loads (w.before k l)))
+pub whole_all : (r p : Record) → loadable r ≡ true → Whole r 0x0B p → indexed p ≡ with_memo r (emptied 0 0)
+whole_all r p loads w =
+    same_record_lem p r (emptied 0 0) (objects_same (w.before head (omega arith)))
+    ((λ t. index_of (table (edges.counted t) (λ i. map (λ c. at c i) (first_all loads edges t)))) ∙ sym (own_index r loads)) w.memo
+    (λ k l. ((w.before k l).counted, first_all loads (w.before k l)))
   where
     edges : FirstLines r edge (count edge r) p
     edges = w.before edge (omega arith)

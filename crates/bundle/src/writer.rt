@@ -5,9 +5,9 @@ ghost use Rattle.policy.specs.Table.{end};
 ghost use Rattle.policy.specs.Loadable.{loadable};
 ghost use Rattle.writing.specs.Drafts.{RoomFor, Put};
 ghost use Rattle.policy.specs.Table.{widths};
-ghost use Rattle.bundle.specs.Writing.{body, lineOctets, bundleOf, measured};
+ghost use Rattle.bundle.specs.Writing.{body, line_octets, bundle_of, measured};
 ghost use Rattle.policy.specs.Typed.{Typed};
-ghost use Rattle.bundle.specs.WriterParts.{graphLines, groundLines, start, Room, Writes};
+ghost use Rattle.bundle.specs.WriterParts.{graph_lines, ground_lines, start, Room, Writes};
 
 use crate::Written;
 use policy::Record;
@@ -16,7 +16,7 @@ use writing::{Draft, put_demarcations, put_line, put_methods, put_pairs, put_tri
 // The length of a loadable record's bundle: so many bytes for each line.
 fn bundle_length(rules: Record) -> usize
     requires { loadable rules ≡ true }
-    ensures { result ≡ length (bundleOf rules) }
+    ensures { result ≡ length (bundle_of rules) }
 {
     let two = rules.hierarchy_count
         + rules.principal_count
@@ -46,8 +46,8 @@ pub fn measure(rules: Record) -> Written
 
 // Kinds 01 to 05, from the start of the buffer on.
 fn put_graph(rules: Record, buffer: &mut [u8]) -> Draft
-    requires { (loadable rules ≡ true) × Typed rules × Room buffer.old start (graphLines rules) }
-    ensures { Put buffer.old buffer.new start result (graphLines rules) }
+    requires { (loadable rules ≡ true) × Typed rules × Room buffer.old start (graph_lines rules) }
+    ensures { Put buffer.old buffer.new start result (graph_lines rules) }
 {
     let from = Draft {
         offset: 0,
@@ -84,8 +84,8 @@ fn put_graph(rules: Record, buffer: &mut [u8]) -> Draft
 
 // Kinds 06 to 0A, after those before them. A draft is numbered by the kind that it comes after.
 fn put_grounds(rules: Record, buffer: &mut [u8], from: Draft) -> Draft
-    requires { (loadable rules ≡ true) × Typed rules × Room buffer.old from (groundLines rules) }
-    ensures { Put buffer.old buffer.new from result (groundLines rules) }
+    requires { (loadable rules ≡ true) × Typed rules × Room buffer.old from (ground_lines rules) }
+    ensures { Put buffer.old buffer.new from result (ground_lines rules) }
 {
     let n = rules.hierarchy_count;
     let d6 = put_pairs(buffer, from, 0x06, n, &rules.inferiors, &rules.superiors);
@@ -133,7 +133,7 @@ fn end_body(lines: usize, sum: usize) -> [u8; 6]
 // The end line, after all others.
 fn put_end(buffer: &mut [u8], from: Draft) -> Draft
     requires { RoomFor buffer.old from 1 19 }
-    ensures { Put buffer.old buffer.new from result (lineOctets end (from.lines ∷ from.sum ∷ []) ∷ []) }
+    ensures { Put buffer.old buffer.new from result (line_octets end (from.lines ∷ from.sum ∷ []) ∷ []) }
 {
     let body = end_body(from.lines, from.sum);
     put_line(buffer, from, 0xFF, &body)

@@ -4,25 +4,25 @@ use Rattle.policy.specs.declared.Record.{Record}
 use Rattle.policy.specs.Typed.{Typed}
 use Rattle.reading.specs.Loading.{load}
 use Rattle.bundle.specs.Writing.{written}
-use Rattle.replay.specs.Replay.{answeredCount, leftAfter, bufferAfter}
+use Rattle.replay.specs.Replay.{answered_count, left_after, buffer_after}
 use Rattle.capi.specs.Interface.{packed}
 use Rattle.capi.specs.declared.lent.Left.{Left}
 
 -- loading: its number and line, and its record, blank for a refused bundle
-abbrev pub loadValue : List ℕ → ℕ
-loadValue text = packed (load text).number (load text).line
+abbrev pub load_value : List ℕ → ℕ
+load_value text = packed (load text).number (load text).line
 
-abbrev pub loadLeft : List ℕ → Left
-loadLeft text = record { value = loadValue text; rules = (load text).rules }
+abbrev pub load_left : List ℕ → Left
+load_left text = record { value = load_value text; rules = (load text).rules }
 
 -- writing: the writer's number and length
-abbrev pub writeValue : Record → List ℕ → ℕ
-writeValue r buffer = packed (written r buffer).number (written r buffer).length
+abbrev pub write_value : Record → List ℕ → ℕ
+write_value r buffer = packed (written r buffer).number (written r buffer).length
 
 -- answering, from the buffer `before`: the count, the record that the last call left, and the answers; the record is one of its type, so
 -- that 19 says that no text loads to it
 pub record Answers (r : Record) (calls before : List ℕ) (n : ℕ) (left : Record) (after : List ℕ) : Type 0 where
-  pub count : n ≡ answeredCount calls before
-  pub rules : left ≡ leftAfter r calls (answeredCount calls before)
-  pub buffer : after ≡ bufferAfter r calls before
+  pub count : n ≡ answered_count calls before
+  pub rules : left ≡ left_after r calls (answered_count calls before)
+  pub buffer : after ≡ buffer_after r calls before
   pub typed : Typed r

@@ -3,8 +3,8 @@
 ghost use Rattle.std.specs.Prelude.{◌≡◌};
 ghost use Rattle.policy.specs.Typed.{Typed};
 ghost use Rattle.reading.specs.Loading.{load};
-ghost use Rattle.bundle.specs.Writing.{bufferAfter};
-ghost use Rattle.capi.specs.Lent.{loadValue, loadLeft, writeValue, Answers};
+ghost use Rattle.bundle.specs.Writing.{buffer_after};
+ghost use Rattle.capi.specs.Lent.{load_value, load_left, write_value, Answers};
 
 use crate::packed;
 use policy::Record;
@@ -18,7 +18,7 @@ pub struct Left {
 
 // Loads a bundle: its number and line, and its record.
 fn load_left(bundle: &[u8]) -> Left
-    ensures { result ≡ loadLeft bundle.now }
+    ensures { result ≡ load_left bundle.now }
 {
     let loaded = bundle::load(bundle);
     let value = packed(loaded.number, loaded.line);
@@ -31,7 +31,7 @@ fn load_left(bundle: &[u8]) -> Left
 
 // Writes the record as a bundle: the writer's number and length.
 fn write_value(rules: Record, out: &mut [u8]) -> u64
-    ensures { (result ≡ writeValue rules out.old) × (out.new ≡ bufferAfter rules out.old) × Typed rules }
+    ensures { (result ≡ write_value rules out.old) × (out.new ≡ buffer_after rules out.old) × Typed rules }
 {
     let written = bundle::write(rules, out);
     packed(written.number, written.length)
@@ -40,7 +40,7 @@ fn write_value(rules: Record, out: &mut [u8]) -> u64
 // Loads a bundle into the caller's record, which a refused bundle leaves blank. Its number and line.
 #[unsafe(no_mangle)]
 pub extern "C" fn access_load(rules: &mut Record, bundle: &[u8]) -> u64
-    ensures { (result ≡ loadValue bundle.now) × (rules.new ≡ (load bundle.now).rules) }
+    ensures { (result ≡ load_value bundle.now) × (rules.new ≡ (load bundle.now).rules) }
 {
     let left = load_left(bundle);
     *rules = left.rules;
@@ -62,8 +62,8 @@ pub extern "C" fn access_answer(rules: &mut Record, calls: &[u8], answers: &mut 
 // Writes the caller's record as a bundle into `out`. The writer's number and length.
 #[unsafe(no_mangle)]
 pub extern "C" fn access_write(rules: &Record, out: &mut [u8]) -> u64
-    ensures { (result ≡ writeValue rules.now out.old)
-        × (out.new ≡ bufferAfter rules.now out.old) × Typed rules.now }
+    ensures { (result ≡ write_value rules.now out.old)
+        × (out.new ≡ buffer_after rules.now out.old) × Typed rules.now }
 {
     write_value(*rules, out)
 }

@@ -3,7 +3,7 @@
 
 ghost use Rattle.std.specs.Prelude.{◌≡◌};
 ghost use Rattle.reading.specs.Loading.{load};
-ghost use Rattle.capi.specs.Interface.{rewriteValue, rewriteBuffer, replayValue, replayBuffer};
+ghost use Rattle.capi.specs.Interface.{rewrite_value, rewrite_buffer, replay_value, replay_buffer};
 ghost use Rattle.capi.specs.Interface as interface;
 
 pub mod lent;
@@ -18,8 +18,8 @@ fn packed(number: u8, value: usize) -> u64
 // Loads a bundle and writes it again into `out`. A refused bundle: its number and line. Else the writer's number and length.
 #[unsafe(no_mangle)]
 pub extern "C" fn access_rewrite(bundle: &[u8], out: &mut [u8]) -> u64
-    ensures { (result ≡ rewriteValue (load bundle.now) out.old)
-        × (out.new ≡ rewriteBuffer (load bundle.now) out.old) }
+    ensures { (result ≡ rewrite_value (load bundle.now) out.old)
+        × (out.new ≡ rewrite_buffer (load bundle.now) out.old) }
 {
     let loaded = bundle::load(bundle);
     if loaded.number != 0 {
@@ -34,8 +34,8 @@ pub extern "C" fn access_rewrite(bundle: &[u8], out: &mut [u8]) -> u64
 // Else the count of answers.
 #[unsafe(no_mangle)]
 pub extern "C" fn access_replay(bundle: &[u8], calls: &[u8], answers: &mut [u8]) -> u64
-    ensures { (result ≡ replayValue (load bundle.now) calls.now answers.old)
-        × (answers.new ≡ replayBuffer (load bundle.now) calls.now answers.old) }
+    ensures { (result ≡ replay_value (load bundle.now) calls.now answers.old)
+        × (answers.new ≡ replay_buffer (load bundle.now) calls.now answers.old) }
 {
     let loaded = bundle::load(bundle);
     if loaded.number != 0 {

@@ -15,13 +15,13 @@ use denote.Array.{Array, each}
 use Rattle.closure.proofs.Square.{Square}
 
 module _ (R : RattleType) (n : ℕ) where
-  row-length : (xs : List (List R.Denot)) (us : List Val) → shadow (each (List R.Denot) (Array R n).own_val xs us)
+  row_length : (xs : List (List R.Denot)) (us : List Val) → shadow (each (List R.Denot) (Array R n).own_val xs us)
       → (x : ℕ) → x < length xs → length (get_or xs x []) ≡ n
-  row-length [] us s x l = absurd (omega arith)
-  row-length (r ∷ xs) [] s x l = absurd s
-  row-length (r ∷ xs) (u ∷ us) s zero l = s.0.1.0.1
-  row-length (r ∷ xs) (u ∷ us) s (suc x) l = row-length xs us s.1 x (le_of_suc-le-suc l)
+  row_length [] us s x l = absurd (omega arith)
+  row_length (r ∷ xs) [] s x l = absurd s
+  row_length (r ∷ xs) (u ∷ us) s zero l = s.0.1.0.1
+  row_length (r ∷ xs) (u ∷ us) s (suc x) l = row_length xs us s.1 x (le_of_suc-le-suc l)
 
-pub square-of : (n : ℕ) (m : List (List Bool)) (vs : List Val) → Is (Array (Array Boolean n) n) m vs → Square n m
-square-of n m vs p =
-    record { rows = p.1.0.1; cells = λ x l. row-length Boolean n m p.0 p.1.1 x (subst (λ (k : ℕ). x < k) (sym p.1.0.1) l) }
+pub square_of : (n : ℕ) (m : List (List Bool)) (vs : List Val) → Is (Array (Array Boolean n) n) m vs → Square n m
+square_of n m vs p =
+    record { rows = p.1.0.1; cells = λ x l. row_length Boolean n m p.0 p.1.1 x (subst (λ (k : ℕ). x < k) (sym p.1.0.1) l) }

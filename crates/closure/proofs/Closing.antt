@@ -5,7 +5,7 @@ use mathlib.Core.Logic.{◌↔◌, ◌≢◌, ◌⊎◌, inl, inr, ⊎_elim}
 use native.Mathlib.Nat.{eq-or-lt_of_le}
 use native.Mathlib.Omega.{arith}
 use Rattle.closure.specs.Closure.{Rel, Star, here, step, Circle, Below, Closes}
-use Rattle.closure.specs.ClosureFact.{star-trans, star-one}
+use Rattle.closure.specs.ClosureFact.{star_trans, star_one}
 
 -- C after the numbers below k have been gone through: R is in it, it is reflexive there and transitive through them, and what is in it
 -- beside R is between numbers below n and within the closure
@@ -38,8 +38,8 @@ under : (x i : ℕ) → x < i + 1 → (x < i) ⊎ (x ≡ i)
 under x i l = ⊎_elim (λ e. inr e) (λ h. inl h) (eq-or-lt_of_le (let h : x ≤ i = omega arith in h))
 
 module _ {n k i : ℕ} {C : Rel} where
-  pub cells-none : CellsDone n k i 0 C C
-  cells-none = record { kept = λ x y r. r; only = λ x y r. inl r; done = λ y l. absurd (omega arith) }
+  pub cells_none : CellsDone n k i 0 C C
+  cells_none = record { kept = λ x y r. r; only = λ x y r. inl r; done = λ y l. absurd (omega arith) }
 
   module _ {j : ℕ} {D : Rel} (a : CellsDone n k i j C D) where
     next : {E : Rel} → ((x y : ℕ) → D x y → E x y) → (C k j → E i j) → (y : ℕ) → y < j + 1 → C k y → E i y
@@ -47,8 +47,8 @@ module _ {n k i : ℕ} {C : Rel} where
         ⊎_elim (λ l'. more i y (a.done y l' q)) (λ e. subst (E i) (sym e) (new (subst (C k) e q))) (under y j l)
 
     -- the cell (i, j) is put in, since k leads to j
-    pub cells-more : {E : Rel} → j < n → D k j → With i j D E → CellsDone n k i (j + 1) C E
-    cells-more lj q w =
+    pub cells_more : {E : Rel} → j < n → D k j → With i j D E → CellsDone n k i (j + 1) C E
+    cells_more lj q w =
         record {
           kept = λ x y r. w.kept x y (a.kept x y r);
           only = λ x y r. ⊎_elim
@@ -59,8 +59,8 @@ module _ {n k i : ℕ} {C : Rel} where
         }
 
     -- or it is not, since k does not lead to j
-    pub cells-skip : (D k j → ⊥) → CellsDone n k i (j + 1) C D
-    cells-skip no' =
+    pub cells_skip : (D k j → ⊥) → CellsDone n k i (j + 1) C D
+    cells_skip no' =
         record { kept = a.kept; only = a.only; done = next (λ x y r. r) (λ q. absurd (no' (a.kept k j q))) }
 
 module _ {n k : ℕ} {C : Rel} where
@@ -96,22 +96,22 @@ module _ {n k : ℕ} {C : Rel} where
         }
 
     -- or it is not, since i does not lead to k
-    pub rows-skip : (D i k → ⊥) → RowsDone n k (i + 1) C D
-    rows-skip no' =
+    pub rows_skip : (D i k → ⊥) → RowsDone n k (i + 1) C D
+    rows_skip no' =
         record { kept = t.kept; only = t.only; done = more_rows (λ x y r. r) (λ y _ p _. absurd (no' (t.kept i k p))) }
 
 module _ {n : ℕ} {R : Rel} where
-  pub through-none : ClosedThrough n R 0 R
-  through-none =
+  pub through_none : ClosedThrough n R 0 R
+  through_none =
       record { base = λ x y r. r; diag = λ x l. absurd (omega arith); through = λ a x y l. absurd (omega arith); sound = λ x y r. inl r }
 
   module _ {k : ℕ} {C : Rel} (u : ClosedThrough n R k C) where
     way : {x y : ℕ} → x < n → y < n → C x y → Star (Below n R) x y
-    way lx ly p = ⊎_elim (λ r. star-one (lx, ly, r)) (λ w. w.2) (u.sound _ _ p)
+    way lx ly p = ⊎_elim (λ r. star_one (lx, ly, r)) (λ w. w.2) (u.sound _ _ p)
 
     -- the closure, at the end
-    pub through-all : k ≡ n → Closes n R C
-    through-all all =
+    pub through_all : k ≡ n → Closes n R C
+    through_all all =
         record {
           inside = λ i j li lj. (way li lj, back li lj);
           outside = λ i j out. (λ p. ⊎_elim (λ r. r) (λ w. absurd (out w.0 w.1)) (u.sound i j p), u.base i j);
@@ -122,8 +122,8 @@ module _ {n : ℕ} {R : Rel} where
         back lx ly (step r p) = u.through _ _ _ (let l = r.1 in omega arith) lx ly (u.base _ _ r.2) (back r.1 ly p)
 
     -- k itself is put in
-    pub through-self : {D : Rel} → k < n → With k k C D → ClosedThrough n R k D
-    through-self {D} l w =
+    pub through_self : {D : Rel} → k < n → With k k C D → ClosedThrough n R k D
+    through_self {D} l w =
         record {
           base = λ x y r. w.kept x y (u.base x y r);
           diag = λ x a. w.kept x x (u.diag x a);
@@ -139,8 +139,8 @@ module _ {n : ℕ} {R : Rel} where
         }
 
     -- and every way through k
-    pub through-next : {i : ℕ} {D : Rel} → i ≡ n → k < n → C k k → RowsDone n k i C D → ClosedThrough n R (k + 1) D
-    through-next {i} {D} e l self t =
+    pub through_next : {i : ℕ} {D : Rel} → i ≡ n → k < n → C k k → RowsDone n k i C D → ClosedThrough n R (k + 1) D
+    through_next {i} {D} e l self t =
         record {
           base = λ x y r. t.kept x y (u.base x y r);
           diag = λ x a. ⊎_elim
@@ -154,7 +154,7 @@ module _ {n : ℕ} {R : Rel} where
               (under a k la);
           sound = λ x y p.
               ⊎_elim (u.sound x y)
-              (λ (lx, ly, p', q'). inr (lx, ly, star-trans (way lx l p') (way l ly q')))
+              (λ (lx, ly, p', q'). inr (lx, ly, star_trans (way lx l p') (way l ly q')))
               (t.only x y p);
         }
       where
@@ -169,8 +169,8 @@ module _ {n : ℕ} {R : Rel} where
         ways a x y la lx ly (inr p) (inr q) = t.done x y (omega arith) ly p.2 q.3
 
 -- the circles of a closure are those of the ways
-pub circle-closed : {n : ℕ} {R C : Rel} → Closes n R C → (Circle (Below n C) ↔ Circle (Star (Below n R)))
-circle-closed {n} {R} c = (
+pub circle_closed : {n : ℕ} {R C : Rel} → Closes n R C → (Circle (Below n C) ↔ Circle (Star (Below n R)))
+circle_closed {n} {R} c = (
   λ (i, j, ne, (li, lj, p), (lj', li', q)). (i, j, ne, (c.inside i j li lj).0 p, (c.inside j i lj li).0 q),
   λ (i, j, ne, p, q).
       let li = starts ne p in

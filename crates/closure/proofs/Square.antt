@@ -24,22 +24,22 @@ module _ {s : ℕ} {m : List (List Bool)} (q : Square s m) (i j : ℕ) (li : i <
   row_same : (b : Bool) → get_or (put m i j b) i [] ≡ set (get_or m i []) j b
   row_same b = get_or-set_same m i _ [] (let r = q.rows in omega arith)
 
-  pub square-put : (b : Bool) → Square s (put m i j b)
-  square-put b =
-      record { rows = length-set m i _ ∙ q.rows; cells = λ x lx. cells-put x lx (ℕ_discrete x i) }
+  pub square_put : (b : Bool) → Square s (put m i j b)
+  square_put b =
+      record { rows = length-set m i _ ∙ q.rows; cells = λ x lx. cells_put x lx (ℕ_discrete x i) }
     where
-      cells-put : (x : ℕ) → x < s → Dec (x ≡ i) → length (get_or (put m i j b) x []) ≡ s
-      cells-put x lx (yes e) =
+      cells_put : (x : ℕ) → x < s → Dec (x ≡ i) → length (get_or (put m i j b) x []) ≡ s
+      cells_put x lx (yes e) =
           subst (λ (z : ℕ). length (get_or (put m i j b) z []) ≡ s) (sym e)
           (ap length (row_same b) ∙ length-set (get_or m i []) j b ∙ q.cells i li)
-      cells-put x lx (no h) = ap length (get_or-set_other m i x _ [] h) ∙ q.cells x lx
+      cells_put x lx (no h) = ap length (get_or-set_other m i x _ [] h) ∙ q.cells x lx
 
-  pub with-put : With i j (On m) (On (put m i j true))
-  with-put =
+  pub with_put : With i j (On m) (On (put m i j true))
+  with_put =
       record {
         added = on_same;
-        kept = λ x y p. ⊎_elim (λ e. subst₂ (On (put m i j true)) (sym e.0) (sym e.1) on_same) (λ e. e ∙ p) (on-other x y);
-        only = λ x y p. ⊎_elim (λ e. inr e) (λ e. inl (sym e ∙ p)) (on-other x y);
+        kept = λ x y p. ⊎_elim (λ e. subst₂ (On (put m i j true)) (sym e.0) (sym e.1) on_same) (λ e. e ∙ p) (on_other x y);
+        only = λ x y p. ⊎_elim (λ e. inr e) (λ e. inl (sym e ∙ p)) (on_other x y);
       }
     where
       on_same : On (put m i j true) i j
@@ -58,5 +58,5 @@ module _ {s : ℕ} {m : List (List Bool)} (q : Square s m) (i j : ℕ) (li : i <
           (ap (λ (r : List Bool). get_or r y false) (row_same true) ∙ get_or-set_other (get_or m i []) j y true false g))
       other x y (no h) d = inr (ap (λ (r : List Bool). get_or r y false) (get_or-set_other m i x _ [] h))
 
-      on-other : (x y : ℕ) → Other x y
-      on-other x y = other x y (ℕ_discrete x i) (ℕ_discrete y j)
+      on_other : (x y : ℕ) → Other x y
+      on_other x y = other x y (ℕ_discrete x i) (ℕ_discrete y j)

@@ -1,7 +1,7 @@
 -- Relations on numbers: the reflexive and transitive closure, circles; and the same for a list of pairs, computed.
 -- Hierarchy and prerequisites both mean this closure (document 01, "Grounds and guards").
 use Rattle.std.specs.Prelude.{ℕ, ◌<◌, ◌≡◌, ◌↔◌, ◌≢◌, ◌⊎◌, Bool, true, false, ◌&&◌, ◌||◌, List, [], ◌∷◌, get_or, eqb}
-use Rattle.common.specs.Limits.{mostRelated}
+use Rattle.common.specs.Limits.{most_related}
 use Rattle.common.specs.Lists.{at, any, table}
 
 abbrev pub Rel : Type 1
@@ -34,8 +34,8 @@ On m i j = get_or (get_or m i []) j false ≡ true
 -- ---- of a list of pairs
 
 -- the first n pairs of two columns of numbers
-abbrev pub pairsOf : ℕ → List ℕ → List ℕ → List (List ℕ)
-pairsOf n firsts seconds = table n (λ e. at firsts e ∷ at seconds e ∷ [])
+abbrev pub pairs_of : ℕ → List ℕ → List ℕ → List (List ℕ)
+pairs_of n firsts seconds = table n (λ e. at firsts e ∷ at seconds e ∷ [])
 
 -- (i, j) is one of the pairs
 abbrev pub Listed : List (List ℕ) → Rel
@@ -44,7 +44,7 @@ Listed (p ∷ ps) i j = ((at p 0 ≡ i) × (at p 1 ≡ j)) ⊎ Listed ps i j
 
 -- the relation m is what the pairs list, between the things that there are
 abbrev pub Relates : List (List ℕ) → List (List Bool) → Type 0
-Relates ps m = (i j : ℕ) → i < mostRelated → j < mostRelated → (On m i j ↔ Listed ps i j)
+Relates ps m = (i j : ℕ) → i < most_related → j < most_related → (On m i j ↔ Listed ps i j)
 
 -- from i one comes to j by steps along the pairs, none or more: without the first pair, or to its start, along it, and on from its end
 unfoldable pub reaches : List (List ℕ) → ℕ → ℕ → Bool

@@ -1,8 +1,8 @@
 // The reflexive and transitive closure of a relation on at most `MOST_RELATED` things, and whether it holds a circle.
 
 ghost use Rattle.std.specs.Prelude.{◌≡◌, ◌↔◌, true, min};
-ghost use Rattle.common.specs.Limits.{mostRelated, mostPairs};
-ghost use Rattle.closure.specs.Closure.{On, pairsOf, Relates, Below, Star, Circle, Closes};
+ghost use Rattle.common.specs.Limits.{most_related, most_pairs};
+ghost use Rattle.closure.specs.Closure.{On, pairs_of, Relates, Below, Star, Circle, Closes};
 
 use common::{MOST_PAIRS, MOST_RELATED};
 
@@ -29,7 +29,7 @@ pub fn related<'a>(
     seconds: &'a [u8; MOST_PAIRS],
     count: usize,
 ) -> [[bool; MOST_RELATED]; MOST_RELATED]
-    ensures { Relates (pairsOf (min count mostPairs) firsts.now seconds.now) result }
+    ensures { Relates (pairs_of (min count most_pairs) firsts.now seconds.now) result }
 {
     let n = at_most(count, MOST_PAIRS);
     let mut m = [[false; MOST_RELATED]; MOST_RELATED];
@@ -49,7 +49,7 @@ pub fn closed(
     m: [[bool; MOST_RELATED]; MOST_RELATED],
     count: usize,
 ) -> [[bool; MOST_RELATED]; MOST_RELATED]
-    ensures { Closes (min count mostRelated) (On m) (On result) }
+    ensures { Closes (min count most_related) (On m) (On result) }
 {
     let n = at_most(count, MOST_RELATED);
     let mut c = m;
@@ -70,7 +70,7 @@ pub fn closed(
 
 // Whether two different things below count lead to each other in the relation c.
 pub fn has_circle(c: [[bool; MOST_RELATED]; MOST_RELATED], count: usize) -> bool
-    ensures { result ≡ true ↔ Circle (Below (min count mostRelated) (On c)) }
+    ensures { result ≡ true ↔ Circle (Below (min count most_related) (On c)) }
 {
     let n = at_most(count, MOST_RELATED);
     for i in 0..n {
@@ -85,7 +85,7 @@ pub fn has_circle(c: [[bool; MOST_RELATED]; MOST_RELATED], count: usize) -> bool
 
 // Whether two different things below count reach each other by steps of the relation m.
 pub fn circular(m: [[bool; MOST_RELATED]; MOST_RELATED], count: usize) -> bool
-    ensures { result ≡ true ↔ Circle (Star (Below (min count mostRelated) (On m))) }
+    ensures { result ≡ true ↔ Circle (Star (Below (min count most_related) (On m))) }
 {
     has_circle(closed(m, count), count)
 }

@@ -11,13 +11,13 @@ pub and_both : (x y : Bool) → x ≡ true → y ≡ true → x && y ≡ true
 and_both true y e f = f
 and_both false y e f = absurd (false≢true e)
 
-pub and-false : (x : Bool) → x && false ≡ false
-and-false true = refl
-and-false false = refl
+pub and_false : (x : Bool) → x && false ≡ false
+and_false true = refl
+and_false false = refl
 
-pub and-true : (x : Bool) → x && true ≡ x
-and-true true = refl
-and-true false = refl
+pub and_true : (x : Bool) → x && true ≡ x
+and_true true = refl
+and_true false = refl
 
 pub or_cases : (x y : Bool) → x || y ≡ true → (x ≡ true) ⊎ (y ≡ true)
 or_cases true y e = inl refl
@@ -31,13 +31,13 @@ pub or_right : (x y : Bool) → y ≡ true → x || y ≡ true
 or_right true y e = refl
 or_right false y e = e
 
-pub or-none : (x y : Bool) → x || y ≡ false → (x ≡ false) × (y ≡ false)
-or-none true y e = absurd (false≢true (sym e))
-or-none false y e = (refl, e)
+pub or_none : (x y : Bool) → x || y ≡ false → (x ≡ false) × (y ≡ false)
+or_none true y e = absurd (false≢true (sym e))
+or_none false y e = (refl, e)
 
-pub or-left-only : (x y : Bool) → y ≡ false → x || y ≡ true → x ≡ true
-or-left-only true y e f = refl
-or-left-only false y e f = absurd (false≢true (sym e ∙ f))
+pub or_left_only : (x y : Bool) → y ≡ false → x || y ≡ true → x ≡ true
+or_left_only true y e f = refl
+or_left_only false y e f = absurd (false≢true (sym e ∙ f))
 
 -- tests that are passed together are the same
 pub same_test : (x y : Bool) → (x ≡ true ↔ y ≡ true) → x ≡ y

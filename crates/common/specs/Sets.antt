@@ -5,7 +5,7 @@ use Rattle.std.specs.Prelude.{◌≡◌, Bool, ℕ, ◌/◌, ◌%◌, ◌^◌, e
 abbrev pub member : ℕ → ℕ → Bool
 member p s = eqb ((s / 2 ^ p) % 2) 1
 
--- the same, as a statement (`SetLaws` `member-in`)
+-- the same, as a statement (`SetLaws` `member_in`)
 pub record In (p s : ℕ) : Type 0 where
   pub bit : s / 2 ^ p % 2 ≡ 1
 

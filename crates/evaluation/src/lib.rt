@@ -4,12 +4,12 @@
 // forward in the edges' own order, backward in the order of the index's places.
 
 ghost use Rattle.std.specs.Prelude.{◌≡◌, true, false, cond, not, ◌≤◌, ◌<◌, eqb};
-ghost use Rattle.common.specs.Limits.{mostFormulas};
+ghost use Rattle.common.specs.Limits.{most_formulas};
 ghost use Rattle.common.specs.Lists.{at};
 ghost use Rattle.edge_index.specs.Index.{Indexed};
-ghost use Rattle.vertices.specs.Steps.{leads, Among, edgesIn};
-ghost use Rattle.formula.specs.Formula.{trueOf, trueBelow};
-ghost use Rattle.formula.specs.Evaluation.{formulasIn, slotIn, context_of, contextIn, formulaAt, Direction};
+ghost use Rattle.vertices.specs.Steps.{leads, Among, edges_in};
+ghost use Rattle.formula.specs.Formula.{true_of, true_below};
+ghost use Rattle.formula.specs.Evaluation.{formulas_in, slot_in, context_of, context_in, formula_at, Direction};
 
 use common::{LABEL_COUNT, MOST_EDGES, MOST_FORMULAS, SLOT_COUNT};
 use vertices::{EVERY_VERTEX, NO_VERTEX};
@@ -44,9 +44,9 @@ fn true_at<'a>(
     f: usize,
     x: u8,
 ) -> bool
-    requires { Indexed q.edge_count labels.now from.now to.now firsts.now counts.now places.now × (n ≤ mostFormulas) }
-    ensures { result ≡ trueBelow (formulasIn ops.now lefts.now rights.now)
-        (contextIn q labels.now from.now to.now) n f x }
+    requires { Indexed q.edge_count labels.now from.now to.now firsts.now counts.now places.now × (n ≤ most_formulas) }
+    ensures { result ≡ true_below (formulas_in ops.now lefts.now rights.now)
+        (context_in q labels.now from.now to.now) n f x }
 {
     let w = formula::place_below(q, ops, lefts, n, f);
     if w <= EVERY_VERTEX {
@@ -111,9 +111,9 @@ fn connected_at<'a>(
     x: u8,
 ) -> bool
     requires { Indexed q.edge_count labels.now from.now to.now firsts.now counts.now places.now
-        × (f < mostFormulas) × (4 ≤ at ops.now f) × (at ops.now f ≤ 6) }
-    ensures { result ≡ formulaAt (formulasIn ops.now lefts.now rights.now)
-        (contextIn q labels.now from.now to.now) f x }
+        × (f < most_formulas) × (4 ≤ at ops.now f) × (at ops.now f ≤ 6) }
+    ensures { result ≡ formula_at (formulas_in ops.now lefts.now rights.now)
+        (context_in q labels.now from.now to.now) f x }
 {
     let op = ops[f];
     let t = true_at(
@@ -175,10 +175,10 @@ fn step_at<'a>(
     x: u8,
 ) -> bool
     requires { Indexed q.edge_count labels.now from.now to.now firsts.now counts.now places.now
-        × (f < mostFormulas) × Direction backward from.now to.now starts.now ends.now }
-    ensures { result ≡ leads (edgesIn q.edge_count labels.now starts.now ends.now) 1 2
-        (at lefts.now f) (trueBelow (formulasIn ops.now lefts.now rights.now)
-        (contextIn q labels.now from.now to.now) f (at rights.now f)) x }
+        × (f < most_formulas) × Direction backward from.now to.now starts.now ends.now }
+    ensures { result ≡ leads (edges_in q.edge_count labels.now starts.now ends.now) 1 2
+        (at lefts.now f) (true_below (formulas_in ops.now lefts.now rights.now)
+        (context_in q labels.now from.now to.now) f (at rights.now f)) x }
 {
     let span = edge_index::positions_of(firsts, counts, lefts[f]);
     let first = span.first;
@@ -220,10 +220,10 @@ fn at_slot<'a>(
     rights: &'a [u8; MOST_FORMULAS],
     f: usize,
 ) -> bool
-    requires { Indexed q.edge_count labels.now from.now to.now firsts.now counts.now places.now × (f < mostFormulas) }
-    ensures { result ≡ trueOf (slotIn q (at lefts.now f))
-        (trueBelow (formulasIn ops.now lefts.now rights.now)
-        (contextIn q labels.now from.now to.now) f (at rights.now f)) }
+    requires { Indexed q.edge_count labels.now from.now to.now firsts.now counts.now places.now × (f < most_formulas) }
+    ensures { result ≡ true_of (slot_in q (at lefts.now f))
+        (true_below (formulas_in ops.now lefts.now rights.now)
+        (context_in q labels.now from.now to.now) f (at rights.now f)) }
 {
     let v = formula::slot_vertex(q, lefts[f]);
     if NO_VERTEX <= v {
@@ -265,10 +265,10 @@ fn evaluate<'a, 'b>(
     f: usize,
     asked: &'b Vertices,
 ) -> Vertices
-    requires { Indexed q.edge_count labels.now from.now to.now firsts.now counts.now places.now × (n ≤ mostFormulas) }
+    requires { Indexed q.edge_count labels.now from.now to.now firsts.now counts.now places.now × (n ≤ most_formulas) }
     ensures { Among asked.now
-        (trueBelow (formulasIn ops.now lefts.now rights.now)
-        (contextIn q labels.now from.now to.now) n f) result }
+        (true_below (formulas_in ops.now lefts.now rights.now)
+        (context_in q labels.now from.now to.now) n f) result }
 {
     let w = formula::place_below(q, ops, lefts, n, f);
     if w <= EVERY_VERTEX {
@@ -316,10 +316,10 @@ fn connective<'a, 'b>(
     asked: &'b Vertices,
 ) -> Vertices
     requires { Indexed q.edge_count labels.now from.now to.now firsts.now counts.now places.now
-        × (f < mostFormulas) × (4 ≤ at ops.now f) × (at ops.now f ≤ 6) }
+        × (f < most_formulas) × (4 ≤ at ops.now f) × (at ops.now f ≤ 6) }
     ensures { Among asked.now
-        (formulaAt (formulasIn ops.now lefts.now rights.now)
-        (contextIn q labels.now from.now to.now) f) result }
+        (formula_at (formulas_in ops.now lefts.now rights.now)
+        (context_in q labels.now from.now to.now) f) result }
 {
     let op = ops[f];
     let left = index(lefts[f]);
@@ -363,11 +363,11 @@ fn scan_edges<'a, 'b>(
     asked: &'b Vertices,
 ) -> Vertices
     requires { Indexed q.edge_count labels.now from.now to.now firsts.now counts.now places.now
-        × (f < mostFormulas) × Direction backward from.now to.now starts.now ends.now }
+        × (f < most_formulas) × Direction backward from.now to.now starts.now ends.now }
     ensures { Among asked.now
-        (leads (edgesIn q.edge_count labels.now starts.now ends.now) 1 2 (at lefts.now f)
-        (trueBelow (formulasIn ops.now lefts.now rights.now)
-        (contextIn q labels.now from.now to.now) f (at rights.now f))) result }
+        (leads (edges_in q.edge_count labels.now starts.now ends.now) 1 2 (at lefts.now f)
+        (true_below (formulas_in ops.now lefts.now rights.now)
+        (context_in q labels.now from.now to.now) f (at rights.now f))) result }
 {
     let span = edge_index::positions_of(firsts, counts, lefts[f]);
     let first = span.first;
@@ -403,10 +403,10 @@ fn keep_each<'a, 'b>(
     asked: &'b Vertices,
 ) -> Vertices
     requires { Indexed q.edge_count labels.now from.now to.now firsts.now counts.now places.now
-        × (f < mostFormulas) × (at ops.now f ≡ 9) }
+        × (f < most_formulas) × (at ops.now f ≡ 9) }
     ensures { Among asked.now
-        (formulaAt (formulasIn ops.now lefts.now rights.now)
-        (contextIn q labels.now from.now to.now) f) result }
+        (formula_at (formulas_in ops.now lefts.now rights.now)
+        (context_in q labels.now from.now to.now) f) result }
 {
     let a = lefts[f];
     let right = rights[f];
@@ -462,9 +462,9 @@ pub fn true_at_object<'a>(
     f: usize,
 ) -> bool
     requires { Indexed edge_count labels.now from.now to.now firsts.now counts.now places.now }
-    ensures { result ≡ trueBelow (formulasIn ops.now lefts.now rights.now)
-        (context_of roles object requestor (edgesIn edge_count labels.now from.now to.now))
-        mostFormulas f object }
+    ensures { result ≡ true_below (formulas_in ops.now lefts.now rights.now)
+        (context_of roles object requestor (edges_in edge_count labels.now from.now to.now))
+        most_formulas f object }
 {
     let q = formula::ContextNumbers {
         edge_count: edge_count,

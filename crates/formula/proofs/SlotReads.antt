@@ -12,34 +12,34 @@ use lib.ListN.{length, set, replicate, length-set, length-replicate}
 use lib.Seq.{get_or-set_same, get_or-set_other}
 use lib.Dec.{eqb}
 use borrow.Author.Tests.{eq-eqb, ne_eqb}
-use Rattle.common.specs.Limits.{mostFormulas}
+use Rattle.common.specs.Limits.{most_formulas}
 use Rattle.common.specs.Lists.{at}
 use Rattle.rows.specs.Op.{op_of}
-use Rattle.rows.specs.OpLaws.{op-above}
-use Rattle.vertices.specs.Steps.{isIn}
+use Rattle.rows.specs.OpLaws.{op_above}
+use Rattle.vertices.specs.Steps.{is_in}
 use Rattle.formula.specs.Formula.{Formulas}
-use Rattle.formula.specs.Uses.{reads_of, readsSlot}
-use Rattle.vertices.proofs.VertexSets.{all-false}
+use Rattle.formula.specs.Uses.{reads_of, reads_slot}
+use Rattle.vertices.proofs.VertexSets.{all_false}
 
 -- ---- by the op's number
 module _ (a b : ℕ) (part : ℕ → Bool) (k : ℕ) where
-  pub reads-not : (op : ℕ) → op ≡ 4 → part a ≡ reads_of (op_of op) a b part k
-  reads-not op e = rw e
+  pub reads_not : (op : ℕ) → op ≡ 4 → part a ≡ reads_of (op_of op) a b part k
+  reads_not op e = rw e
 
   pub reads_two : (op : ℕ) → 5 ≤ op → op ≤ 6 → (part a || part b) ≡ reads_of (op_of op) a b part k
   reads_two op l h = ⊎_elim (λ e. rw (← e) refl) (λ m. let e : op ≡ 6 = omega arith in rw e) (eq-or-lt_of_le l)
 
-  pub reads-step : (op : ℕ) → 7 ≤ op → op ≤ 8 → part b ≡ reads_of (op_of op) a b part k
-  reads-step op l h = ⊎_elim (λ e. rw (← e) refl) (λ m. let e : op ≡ 8 = omega arith in rw e) (eq-or-lt_of_le l)
+  pub reads_step : (op : ℕ) → 7 ≤ op → op ≤ 8 → part b ≡ reads_of (op_of op) a b part k
+  reads_step op l h = ⊎_elim (λ e. rw (← e) refl) (λ m. let e : op ≡ 8 = omega arith in rw e) (eq-or-lt_of_le l)
 
-  pub reads-keeping : (op : ℕ) → op ≡ 9 → (not (eqb a k) && part b) ≡ reads_of (op_of op) a b part k
-  reads-keeping op e = rw e
+  pub reads_keeping : (op : ℕ) → op ≡ 9 → (not (eqb a k) && part b) ≡ reads_of (op_of op) a b part k
+  reads_keeping op e = rw e
 
-  pub reads-in-slot : (op : ℕ) → op ≡ 10 → eqb a k ≡ reads_of (op_of op) a b part k
-  reads-in-slot op e = rw e
+  pub reads_in_slot : (op : ℕ) → op ≡ 10 → eqb a k ≡ reads_of (op_of op) a b part k
+  reads_in_slot op e = rw e
 
-  pub reads-at-slot : (op : ℕ) → op ≡ 11 → (eqb a k || part b) ≡ reads_of (op_of op) a b part k
-  reads-at-slot op e = rw e
+  pub reads_at_slot : (op : ℕ) → op ≡ 11 → (eqb a k || part b) ≡ reads_of (op_of op) a b part k
+  reads_at_slot op e = rw e
 
   pub reads_plain : (op : ℕ) → op ≤ 3 → false ≡ reads_of (op_of op) a b part k
   reads_plain zero l = refl
@@ -48,33 +48,33 @@ module _ (a b : ℕ) (part : ℕ → Bool) (k : ℕ) where
   reads_plain (suc (suc (suc zero))) l = refl
   reads_plain (suc (suc (suc (suc n)))) l = absurd (omega arith)
 
-  pub reads-above : (op : ℕ) → 11 < op → false ≡ reads_of (op_of op) a b part k
-  reads-above op l = rw (op-above op l)
+  pub reads_above : (op : ℕ) → 11 < op → false ≡ reads_of (op_of op) a b part k
+  reads_above op l = rw (op_above op l)
 
 -- ---- the formulas below i are marked where they read slot a; no other is
 pub record Marked (fs : Formulas) (a : ℕ) (marks : List Bool) (i : ℕ) : Type 0 where
-  pub size : length marks ≡ mostFormulas
-  pub each : (g : ℕ) → isIn marks g ≡ readsSlot fs i g a
+  pub size : length marks ≡ most_formulas
+  pub each : (g : ℕ) → is_in marks g ≡ reads_slot fs i g a
 
-pub marked-none : (fs : Formulas) (a : ℕ) → Marked fs a (replicate mostFormulas false) 0
-unfolding readsSlot
-marked-none fs a = record { size = length-replicate mostFormulas false; each = λ g. all-false mostFormulas g }
+pub marked_none : (fs : Formulas) (a : ℕ) → Marked fs a (replicate most_formulas false) 0
+unfolding reads_slot
+marked_none fs a = record { size = length-replicate most_formulas false; each = λ g. all_false most_formulas g }
 
 -- one formula more
-pub marked_more : {fs : Formulas} {a : ℕ} {marks : List Bool} {i : ℕ} (x : Bool) → Marked fs a marks i → i < mostFormulas
-    → x ≡ reads_of (op_of (at fs.ops i)) (at fs.lefts i) (at fs.rights i) (isIn marks) a → Marked fs a (set marks i x) (i + 1)
-unfolding readsSlot
+pub marked_more : {fs : Formulas} {a : ℕ} {marks : List Bool} {i : ℕ} (x : Bool) → Marked fs a marks i → i < most_formulas
+    → x ≡ reads_of (op_of (at fs.ops i)) (at fs.lefts i) (at fs.rights i) (is_in marks) a → Marked fs a (set marks i x) (i + 1)
+unfolding reads_slot
 marked_more {fs} {a} {marks} {i} x m l e =
     record {
       size = length-set marks i x ∙ m.size;
-      each = λ g. go g (ℕ_discrete g i) ∙ ap (λ (n : ℕ). readsSlot fs n g a) (sym (add-one i));
+      each = λ g. go g (ℕ_discrete g i) ∙ ap (λ (n : ℕ). reads_slot fs n g a) (sym (add-one i));
     }
   where
-    go : (g : ℕ) → Dec (g ≡ i) → isIn (set marks i x) g
-        ≡ cond (eqb g i) (reads_of (op_of (at fs.ops g)) (at fs.lefts g) (at fs.rights g) (λ h. readsSlot fs i h a) a)
-        (readsSlot fs i g a)
+    go : (g : ℕ) → Dec (g ≡ i) → is_in (set marks i x) g
+        ≡ cond (eqb g i) (reads_of (op_of (at fs.ops g)) (at fs.lefts g) (at fs.rights g) (λ h. reads_slot fs i h a) a)
+        (reads_slot fs i g a)
     go g (yes p) =
-        rw (eq-eqb g i p) (ap (isIn (set marks i x)) p ∙ get_or-set_same marks i x false (omega (arith, m.size)) ∙ e
+        rw (eq-eqb g i p) (ap (is_in (set marks i x)) p ∙ get_or-set_same marks i x false (omega (arith, m.size)) ∙ e
         ∙ (λ j. reads_of (op_of (at fs.ops i)) (at fs.lefts i) (at fs.rights i) (λ h. m.each h j) a)
-        ∙ (λ j. reads_of (op_of (at fs.ops (sym p j))) (at fs.lefts (sym p j)) (at fs.rights (sym p j)) (λ h. readsSlot fs i h a) a))
+        ∙ (λ j. reads_of (op_of (at fs.ops (sym p j))) (at fs.lefts (sym p j)) (at fs.rights (sym p j)) (λ h. reads_slot fs i h a) a))
     go g (no q) = rw (ne_eqb g i q) (get_or-set_other marks i g x false q ∙ m.each g)

@@ -30,25 +30,25 @@ pub record FirstContext : Type 0 where
   pub requestor : ℕ
 
 -- the formula (op, a, b); `part g v` says whether formula g is true at v; another op is true nowhere
-unfoldable pub firstMeaning : FirstContext → Op → ℕ → ℕ → (ℕ → ℕ → Bool) → ℕ → Bool
-firstMeaning c always a b part here = true
-firstMeaning c requestor a b part here = eqb here c.requestor
-firstMeaning c object a b part here = eqb here c.object
-firstMeaning c role a b part here = c.roles a
-firstMeaning c negation a b part here = not (part a here)
-firstMeaning c conjunction a b part here = part a here && part b here
-firstMeaning c disjunction a b part here = part a here || part b here
-firstMeaning c forward a b part here = leads c.edges 1 2 a (part b) here
-firstMeaning c backward a b part here = leads c.edges 2 1 a (part b) here
-firstMeaning c keeping a b part here = false
-firstMeaning c in_slot a b part here = false
-firstMeaning c atSlot a b part here = false
-firstMeaning c unknown a b part here = false
+unfoldable pub first_meaning : FirstContext → Op → ℕ → ℕ → (ℕ → ℕ → Bool) → ℕ → Bool
+first_meaning c always a b part here = true
+first_meaning c requestor a b part here = eqb here c.requestor
+first_meaning c object a b part here = eqb here c.object
+first_meaning c role a b part here = c.roles a
+first_meaning c negation a b part here = not (part a here)
+first_meaning c conjunction a b part here = part a here && part b here
+first_meaning c disjunction a b part here = part a here || part b here
+first_meaning c forward a b part here = leads c.edges 1 2 a (part b) here
+first_meaning c backward a b part here = leads c.edges 2 1 a (part b) here
+first_meaning c keeping a b part here = false
+first_meaning c in_slot a b part here = false
+first_meaning c atSlot a b part here = false
+first_meaning c unknown a b part here = false
 
 -- formula f, where it is below n; a formula at or above n is false
-unfoldable pub firstBelow : Formulas → FirstContext → ℕ → ℕ → ℕ → Bool
-firstBelow fs c zero f here = false
-firstBelow fs c (suc n) f here =
+unfoldable pub first_below : Formulas → FirstContext → ℕ → ℕ → ℕ → Bool
+first_below fs c zero f here = false
+first_below fs c (suc n) f here =
     cond (eqb f n)
-    (firstMeaning c (op_of (at fs.ops f)) (at fs.lefts f) (at fs.rights f) (firstBelow fs c n) here)
-    (firstBelow fs c n f here)
+    (first_meaning c (op_of (at fs.ops f)) (at fs.lefts f) (at fs.rights f) (first_below fs c n) here)
+    (first_below fs c n f here)

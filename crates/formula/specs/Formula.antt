@@ -1,6 +1,6 @@
 -- What each formula means (document 01, "Formulas"; request 2026-03, "Naming a vertex in a formula"), at the vertex here.
 use Rattle.std.specs.Prelude.{ℕ, zero, suc, Bool, true, false, not, cond, ◌&&◌, ◌||◌, List, get_or, set, replicate, eqb}
-use Rattle.common.specs.Limits.{slotCount}
+use Rattle.common.specs.Limits.{slot_count}
 use Rattle.common.specs.Lists.{at, any}
 use Rattle.common.specs.Sets.{member}
 use Rattle.rows.specs.Op.{
@@ -30,13 +30,13 @@ pub data Slot : Type 0 where
   holding : ℕ → Slot
 
 -- "All slots are unset at the start of an evaluation."
-abbrev pub allUnset : List Slot
-allUnset = replicate slotCount unset
+abbrev pub all_unset : List Slot
+all_unset = replicate slot_count unset
 
 -- "An unset slot makes 10 and 11 false": whether p is true of the vertex in the slot
-abbrev pub trueOf : Slot → (ℕ → Bool) → Bool
-trueOf unset p = false
-trueOf (holding v) p = p v
+abbrev pub true_of : Slot → (ℕ → Bool) → Bool
+true_of unset p = false
+true_of (holding v) p = p v
 
 -- what a formula is evaluated in: the roles that the requestor holds, the edges (label, from, to), the object, the requestor, the slots
 pub record Context : Type 0 where
@@ -78,35 +78,35 @@ meaning c disjunction a b part here = part c a here || part c b here
 meaning c forward a b part here = leads c.edges 1 2 a (part c b) here
 meaning c backward a b part here = leads c.edges 2 1 a (part c b) here
 meaning c keeping a b part here = part (keep c a here) b here
-meaning c in_slot a b part here = trueOf (slot c a) (λ v. eqb here v)
-meaning c atSlot a b part here = trueOf (slot c a) (part c b)
+meaning c in_slot a b part here = true_of (slot c a) (λ v. eqb here v)
+meaning c atSlot a b part here = true_of (slot c a) (part c b)
 meaning c unknown a b part here = false
 
 -- formula f, where it is below n; a formula at or above n is false
-unfoldable pub trueBelow : Formulas → Context → ℕ → ℕ → ℕ → Bool
-trueBelow fs c zero f here = false
-trueBelow fs c (suc n) f here =
+unfoldable pub true_below : Formulas → Context → ℕ → ℕ → ℕ → Bool
+true_below fs c zero f here = false
+true_below fs c (suc n) f here =
     cond (eqb f n)
-    (meaning c (op_of (at fs.ops f)) (at fs.lefts f) (at fs.rights f) (λ d. trueBelow fs d n) here)
-    (trueBelow fs c n f here)
+    (meaning c (op_of (at fs.ops f)) (at fs.lefts f) (at fs.rights f) (λ d. true_below fs d n) here)
+    (true_below fs c n f here)
 
 -- s is a user of the record; s holds role a
-abbrev pub isUser : Record → ℕ → Bool
-isUser r s = any (λ u. eqb (at u 0) s) (rows user r)
+abbrev pub is_user : Record → ℕ → Bool
+is_user r s = any (λ u. eqb (at u 0) s) (rows user r)
 
-abbrev pub holdsRole : Record → ℕ → ℕ → Bool
-holdsRole r s a = any (λ u. eqb (at u 0) s && member a (at u 1)) (rows user r)
+abbrev pub holds_role : Record → ℕ → ℕ → Bool
+holds_role r s a = any (λ u. eqb (at u 0) s && member a (at u 1)) (rows user r)
 
 -- the record's formulas; what they are evaluated in on the edges es, for an object o and a requestor s, at the start
-abbrev pub formulasOf : Record → Formulas
-formulasOf r = record { ops = r.formula_ops; lefts = r.formula_lefts; rights = r.formula_rights }
+abbrev pub formulas_of : Record → Formulas
+formulas_of r = record { ops = r.formula_ops; lefts = r.formula_lefts; rights = r.formula_rights }
 
-abbrev pub contextOn : Record → List (List ℕ) → ℕ → ℕ → Context
-contextOn r es o s = record { roles = holdsRole r s; edges = es; object = o; requestor = s; slots = allUnset }
+abbrev pub context_on : Record → List (List ℕ) → ℕ → ℕ → Context
+context_on r es o s = record { roles = holds_role r s; edges = es; object = o; requestor = s; slots = all_unset }
 
 -- formula f of the record is true at here, on the edges es; on the record's own
-unfoldable pub holdsOn : Record → List (List ℕ) → ℕ → ℕ → ℕ → ℕ → Bool
-holdsOn r es f here o s = trueBelow (formulasOf r) (contextOn r es o s) r.formula_count f here
+unfoldable pub holds_on : Record → List (List ℕ) → ℕ → ℕ → ℕ → ℕ → Bool
+holds_on r es f here o s = true_below (formulas_of r) (context_on r es o s) r.formula_count f here
 
 unfoldable pub holds : Record → ℕ → ℕ → ℕ → ℕ → Bool
-holds r f here o s = holdsOn r (rows edge r) f here o s
+holds r f here o s = holds_on r (rows edge r) f here o s

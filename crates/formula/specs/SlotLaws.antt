@@ -34,91 +34,91 @@ use Rattle.formula.specs.Formula.{
   Slot,
   unset,
   holding,
-  trueOf,
+  true_of,
   keep,
   meaning,
-  trueBelow,
-  holdsRole,
-  formulasOf,
-  contextOn,
-  holdsOn,
+  true_below,
+  holds_role,
+  formulas_of,
+  context_on,
+  holds_on,
 }
-use Rattle.formula.specs.FormulaLaws.{same-of-slot}
-use Rattle.formula.specs.FirstMeaning.{FirstContext, firstMeaning, firstBelow}
-use Rattle.formula.specs.Uses.{parts_of, throughout, readsNoSlot, hasNoSlot, reads_of, readsSlot}
+use Rattle.formula.specs.FormulaLaws.{same_of_slot}
+use Rattle.formula.specs.FirstMeaning.{FirstContext, first_meaning, first_below}
+use Rattle.formula.specs.Uses.{parts_of, throughout, reads_no_slot, has_no_slot, reads_of, reads_slot}
 
 -- the same but for the slots
-abbrev pub withSlots : Context → List Slot → Context
-withSlots c ss = record { roles = c.roles; edges = c.edges; object = c.object; requestor = c.requestor; slots = ss }
+abbrev pub with_slots : Context → List Slot → Context
+with_slots c ss = record { roles = c.roles; edges = c.edges; object = c.object; requestor = c.requestor; slots = ss }
 
 -- a test that all parts pass is passed by the first, and by the second
 module _ (p : ℕ → Bool) (g : ℕ) where
-  one-part : (p g && true) ≡ true → p g ≡ true
-  one-part h = (and_cases (p g) true h).0
+  one_part : (p g && true) ≡ true → p g ≡ true
+  one_part h = (and_cases (p g) true h).0
 
   first_part : (k : ℕ) → (p g && (p k && true)) ≡ true → p g ≡ true
   first_part k h = (and_cases (p g) (p k && true) h).0
 
-second-part : (p : ℕ → Bool) (g k : ℕ) → (p g && (p k && true)) ≡ true → p k ≡ true
-second-part p g k h = one-part p k (and_cases (p g) (p k && true) h).1
+second_part : (p : ℕ → Bool) (g k : ℕ) → (p g && (p k && true)) ≡ true → p k ≡ true
+second_part p g k h = one_part p k (and_cases (p g) (p k && true) h).1
 
 -- two values of a formula agree, where they agree on the parts that pass a test
 module _ (ok : ℕ → Bool) where
-  same-slots : (p : Context → ℕ → ℕ → Bool)
-      → ((c : Context) (ss : List Slot) (g v : ℕ) → ok g ≡ true → p c g v ≡ p (withSlots c ss) g v)
-      → (c : Context) (ss : List Slot) (op : Op) (a b here : ℕ) → readsNoSlot op ≡ true → every ok (parts_of op a b) ≡ true
-      → meaning c op a b p here ≡ meaning (withSlots c ss) op a b p here
+  same_slots : (p : Context → ℕ → ℕ → Bool)
+      → ((c : Context) (ss : List Slot) (g v : ℕ) → ok g ≡ true → p c g v ≡ p (with_slots c ss) g v)
+      → (c : Context) (ss : List Slot) (op : Op) (a b here : ℕ) → reads_no_slot op ≡ true → every ok (parts_of op a b) ≡ true
+      → meaning c op a b p here ≡ meaning (with_slots c ss) op a b p here
   unfolding meaning
-  same-slots p h c ss always a b here r t = refl
-  same-slots p h c ss requestor a b here r t = refl
-  same-slots p h c ss object a b here r t = refl
-  same-slots p h c ss role a b here r t = refl
-  same-slots p h c ss negation a b here r t = ap not (h c ss a here (one-part ok a t))
-  same-slots p h c ss conjunction a b here r t =
-      λ j. h c ss a here (first_part ok a b t) j && h c ss b here (second-part ok a b t) j
-  same-slots p h c ss disjunction a b here r t =
-      λ j. h c ss a here (first_part ok a b t) j || h c ss b here (second-part ok a b t) j
-  same-slots p h c ss forward a b here r t = λ j. leads c.edges 1 2 a (λ v. h c ss b v (one-part ok b t) j) here
-  same-slots p h c ss backward a b here r t = λ j. leads c.edges 2 1 a (λ v. h c ss b v (one-part ok b t) j) here
-  same-slots p h c ss keeping a b here r t = h (keep c a here) (keep (withSlots c ss) a here).slots b here (one-part ok b t)
-  same-slots p h c ss in_slot a b here r t = absurd (false≢true r)
-  same-slots p h c ss atSlot a b here r t = absurd (false≢true r)
-  same-slots p h c ss unknown a b here r t = refl
+  same_slots p h c ss always a b here r t = refl
+  same_slots p h c ss requestor a b here r t = refl
+  same_slots p h c ss object a b here r t = refl
+  same_slots p h c ss role a b here r t = refl
+  same_slots p h c ss negation a b here r t = ap not (h c ss a here (one_part ok a t))
+  same_slots p h c ss conjunction a b here r t =
+      λ j. h c ss a here (first_part ok a b t) j && h c ss b here (second_part ok a b t) j
+  same_slots p h c ss disjunction a b here r t =
+      λ j. h c ss a here (first_part ok a b t) j || h c ss b here (second_part ok a b t) j
+  same_slots p h c ss forward a b here r t = λ j. leads c.edges 1 2 a (λ v. h c ss b v (one_part ok b t) j) here
+  same_slots p h c ss backward a b here r t = λ j. leads c.edges 2 1 a (λ v. h c ss b v (one_part ok b t) j) here
+  same_slots p h c ss keeping a b here r t = h (keep c a here) (keep (with_slots c ss) a here).slots b here (one_part ok b t)
+  same_slots p h c ss in_slot a b here r t = absurd (false≢true r)
+  same_slots p h c ss atSlot a b here r t = absurd (false≢true r)
+  same_slots p h c ss unknown a b here r t = refl
 
   -- without the slots
   abbrev first : Context → FirstContext
   first c = record { roles = c.roles; edges = c.edges; object = c.object; requestor = c.requestor }
 
   same_first : (p : Context → ℕ → ℕ → Bool) (q : ℕ → ℕ → Bool) (c : Context) → ((g v : ℕ) → ok g ≡ true → p c g v ≡ q g v)
-      → (op : Op) (a b here : ℕ) → hasNoSlot op ≡ true → every ok (parts_of op a b) ≡ true
-      → meaning c op a b p here ≡ firstMeaning (first c) op a b q here
-  unfolding meaning firstMeaning
+      → (op : Op) (a b here : ℕ) → has_no_slot op ≡ true → every ok (parts_of op a b) ≡ true
+      → meaning c op a b p here ≡ first_meaning (first c) op a b q here
+  unfolding meaning first_meaning
   same_first p q c h always a b here r t = refl
   same_first p q c h requestor a b here r t = refl
   same_first p q c h object a b here r t = refl
   same_first p q c h role a b here r t = refl
-  same_first p q c h negation a b here r t = ap not (h a here (one-part ok a t))
+  same_first p q c h negation a b here r t = ap not (h a here (one_part ok a t))
   same_first p q c h conjunction a b here r t =
-      λ j. h a here (first_part ok a b t) j && h b here (second-part ok a b t) j
+      λ j. h a here (first_part ok a b t) j && h b here (second_part ok a b t) j
   same_first p q c h disjunction a b here r t =
-      λ j. h a here (first_part ok a b t) j || h b here (second-part ok a b t) j
-  same_first p q c h forward a b here r t = λ j. leads c.edges 1 2 a (λ v. h b v (one-part ok b t) j) here
-  same_first p q c h backward a b here r t = λ j. leads c.edges 2 1 a (λ v. h b v (one-part ok b t) j) here
+      λ j. h a here (first_part ok a b t) j || h b here (second_part ok a b t) j
+  same_first p q c h forward a b here r t = λ j. leads c.edges 1 2 a (λ v. h b v (one_part ok b t) j) here
+  same_first p q c h backward a b here r t = λ j. leads c.edges 2 1 a (λ v. h b v (one_part ok b t) j) here
   same_first p q c h keeping a b here r t = absurd (false≢true r)
   same_first p q c h in_slot a b here r t = absurd (false≢true r)
   same_first p q c h atSlot a b here r t = absurd (false≢true r)
   same_first p q c h unknown a b here r t = refl
 
 -- two lists of slots with the same vertex put into slot a agree at k, if they agree there but for a
-kept-alike : (l m : List Slot) → length l ≡ length m → (a : ℕ) (x : Slot) (k : ℕ) → (a ≢ k → get_or l k unset ≡ get_or m k unset)
+kept_alike : (l m : List Slot) → length l ≡ length m → (a : ℕ) (x : Slot) (k : ℕ) → (a ≢ k → get_or l k unset ≡ get_or m k unset)
     → get_or (set l a x) k unset ≡ get_or (set m a x) k unset
-kept-alike [] [] e a x k h = refl
-kept-alike [] (t ∷ m) e a x k h = absurd (omega (arith, e))
-kept-alike (s ∷ l) [] e a x k h = absurd (omega (arith, e))
-kept-alike (s ∷ l) (t ∷ m) e zero x zero h = refl
-kept-alike (s ∷ l) (t ∷ m) e zero x (suc k) h = h (λ p. omega (arith, p))
-kept-alike (s ∷ l) (t ∷ m) e (suc a) x zero h = h (λ p. omega (arith, p))
-kept-alike (s ∷ l) (t ∷ m) e (suc a) x (suc k) h = kept-alike l m (omega (arith, e)) a x k (λ n. h (λ p. n (omega (arith, p))))
+kept_alike [] [] e a x k h = refl
+kept_alike [] (t ∷ m) e a x k h = absurd (omega (arith, e))
+kept_alike (s ∷ l) [] e a x k h = absurd (omega (arith, e))
+kept_alike (s ∷ l) (t ∷ m) e zero x zero h = refl
+kept_alike (s ∷ l) (t ∷ m) e zero x (suc k) h = h (λ p. omega (arith, p))
+kept_alike (s ∷ l) (t ∷ m) e (suc a) x zero h = h (λ p. omega (arith, p))
+kept_alike (s ∷ l) (t ∷ m) e (suc a) x (suc k) h = kept_alike l m (omega (arith, e)) a x k (λ n. h (λ p. n (omega (arith, p))))
 
 -- two values of a formula agree, where they agree on the slots that it reads; `reads g k` says of formula g whether it reads slot k
 module _ (reads : ℕ → ℕ → Bool) where
@@ -127,9 +127,9 @@ module _ (reads : ℕ → ℕ → Bool) where
   Alike r c ss = (length c.slots ≡ length ss) × ((k : ℕ) → r k ≡ true → get_or c.slots k unset ≡ get_or ss k unset)
 
   same_read : (p : Context → ℕ → ℕ → Bool)
-      → ((c : Context) (ss : List Slot) (g v : ℕ) → Alike (reads g) c ss → p c g v ≡ p (withSlots c ss) g v)
+      → ((c : Context) (ss : List Slot) (g v : ℕ) → Alike (reads g) c ss → p c g v ≡ p (with_slots c ss) g v)
       → (c : Context) (ss : List Slot) (op : Op) (a b here : ℕ) → Alike (λ k. reads_of op a b (λ g. reads g k) k) c ss
-      → meaning c op a b p here ≡ meaning (withSlots c ss) op a b p here
+      → meaning c op a b p here ≡ meaning (with_slots c ss) op a b p here
   unfolding meaning
   same_read p h c ss always a b here t = refl
   same_read p h c ss requestor a b here t = refl
@@ -149,76 +149,76 @@ module _ (reads : ℕ → ℕ → Bool) where
   same_read p h c ss keeping a b here t =
       h (keep c a here) (set ss a (holding here)) b here (
         length-set c.slots a (holding here) ∙ t.0 ∙ sym (length-set ss a (holding here)),
-        λ k e. kept-alike c.slots ss t.0 a (holding here) k (λ n. t.1 k (rw (ne_eqb a k n) e)),
+        λ k e. kept_alike c.slots ss t.0 a (holding here) k (λ n. t.1 k (rw (ne_eqb a k n) e)),
       )
-  same_read p h c ss in_slot a b here t = λ j. trueOf (t.1 a (eq-eqb a a refl) j) (λ v. eqb here v)
+  same_read p h c ss in_slot a b here t = λ j. true_of (t.1 a (eq-eqb a a refl) j) (λ v. eqb here v)
   same_read p h c ss atSlot a b here t =
-      (λ j. trueOf (t.1 a (or_left (eqb a a) (reads b a) (eq-eqb a a refl)) j) (p c b))
-      ∙ same-of-slot (get_or ss a unset) (p c b) (p (withSlots c ss) b)
+      (λ j. true_of (t.1 a (or_left (eqb a a) (reads b a) (eq-eqb a a refl)) j) (p c b))
+      ∙ same_of_slot (get_or ss a unset) (p c b) (p (with_slots c ss) b)
       (λ v. h c ss b v (t.0, λ k e. t.1 k (or_right (eqb a k) (reads b k) e)))
   same_read p h c ss unknown a b here t = refl
 
 -- THE LAW: the value of a formula depends on the slots that it reads alone
 pub slots_read : (fs : Formulas) (n : ℕ) (c : Context) (ss : List Slot) (f here : ℕ) → length c.slots ≡ length ss
-    → ((k : ℕ) → readsSlot fs n f k ≡ true → get_or c.slots k unset ≡ get_or ss k unset)
-    → trueBelow fs c n f here ≡ trueBelow fs (withSlots c ss) n f here
-unfolding trueBelow readsSlot
+    → ((k : ℕ) → reads_slot fs n f k ≡ true → get_or c.slots k unset ≡ get_or ss k unset)
+    → true_below fs c n f here ≡ true_below fs (with_slots c ss) n f here
+unfolding true_below reads_slot
 slots_read fs zero c ss f here e t = refl
 slots_read fs (suc n) c ss f here e t = go (λ d s g v a. slots_read fs n d s g v a.0 a.1) (eqb f n) t
   where
     op : Op
     op = op_of (at fs.ops f)
 
-    go : ((d : Context) (s : List Slot) (g v : ℕ) → Alike (readsSlot fs n) (readsSlot fs n g) d s
-        → trueBelow fs d n g v ≡ trueBelow fs (withSlots d s) n g v) → (x : Bool)
-        → ((k : ℕ) → cond x (reads_of op (at fs.lefts f) (at fs.rights f) (λ g. readsSlot fs n g k) k) (readsSlot fs n f k) ≡ true
+    go : ((d : Context) (s : List Slot) (g v : ℕ) → Alike (reads_slot fs n) (reads_slot fs n g) d s
+        → true_below fs d n g v ≡ true_below fs (with_slots d s) n g v) → (x : Bool)
+        → ((k : ℕ) → cond x (reads_of op (at fs.lefts f) (at fs.rights f) (λ g. reads_slot fs n g k) k) (reads_slot fs n f k) ≡ true
         → get_or c.slots k unset ≡ get_or ss k unset)
-        → cond x (meaning c op (at fs.lefts f) (at fs.rights f) (λ d. trueBelow fs d n) here) (trueBelow fs c n f here)
-        ≡ cond x (meaning (withSlots c ss) op (at fs.lefts f) (at fs.rights f) (λ d. trueBelow fs d n) here)
-        (trueBelow fs (withSlots c ss) n f here)
-    go ih true t = same_read (readsSlot fs n) (λ d. trueBelow fs d n) ih c ss op _ _ here (e, t)
+        → cond x (meaning c op (at fs.lefts f) (at fs.rights f) (λ d. true_below fs d n) here) (true_below fs c n f here)
+        ≡ cond x (meaning (with_slots c ss) op (at fs.lefts f) (at fs.rights f) (λ d. true_below fs d n) here)
+        (true_below fs (with_slots c ss) n f here)
+    go ih true t = same_read (reads_slot fs n) (λ d. true_below fs d n) ih c ss op _ _ here (e, t)
     go ih false t = ih c ss f here (e, t)
 
 -- so what is kept in a slot that it does not read makes no difference
-pub kept-unread : (fs : Formulas) (n : ℕ) (c : Context) (a v f here : ℕ) → readsSlot fs n f a ≡ false
-    → trueBelow fs (keep c a v) n f here ≡ trueBelow fs c n f here
-kept-unread fs n c a v f here e =
+pub kept_unread : (fs : Formulas) (n : ℕ) (c : Context) (a v f here : ℕ) → reads_slot fs n f a ≡ false
+    → true_below fs (keep c a v) n f here ≡ true_below fs c n f here
+kept_unread fs n c a v f here e =
     sym (slots_read fs n c (set c.slots a (holding v)) f here (sym (length-set c.slots a (holding v)))
     (λ k t. go k t (ℕ_discrete k a)))
   where
-    go : (k : ℕ) → readsSlot fs n f k ≡ true → Dec (k ≡ a) → get_or c.slots k unset ≡ get_or (set c.slots a (holding v)) k unset
-    go k t (yes p) = absurd (false≢true (sym e ∙ ap (readsSlot fs n f) (sym p) ∙ t))
+    go : (k : ℕ) → reads_slot fs n f k ≡ true → Dec (k ≡ a) → get_or c.slots k unset ≡ get_or (set c.slots a (holding v)) k unset
+    go k t (yes p) = absurd (false≢true (sym e ∙ ap (reads_slot fs n f) (sym p) ∙ t))
     go k t (no q) = sym (get_or-set_other c.slots a k (holding v) unset q)
 
 -- THE LAW: the value of a formula without op 10 or 11, in it or below it, does not depend on the slots
-pub slots-unread : (fs : Formulas) (n : ℕ) (c : Context) (ss : List Slot) (f here : ℕ) → throughout readsNoSlot fs n f ≡ true
-    → trueBelow fs c n f here ≡ trueBelow fs (withSlots c ss) n f here
-unfolding trueBelow throughout
-slots-unread fs zero c ss f here t = refl
-slots-unread fs (suc n) c ss f here t = go (slots-unread fs n) (eqb f n) t
+pub slots_unread : (fs : Formulas) (n : ℕ) (c : Context) (ss : List Slot) (f here : ℕ) → throughout reads_no_slot fs n f ≡ true
+    → true_below fs c n f here ≡ true_below fs (with_slots c ss) n f here
+unfolding true_below throughout
+slots_unread fs zero c ss f here t = refl
+slots_unread fs (suc n) c ss f here t = go (slots_unread fs n) (eqb f n) t
   where
     op : Op
     op = op_of (at fs.ops f)
 
-    go : ((d : Context) (s : List Slot) (g v : ℕ) → throughout readsNoSlot fs n g ≡ true
-        → trueBelow fs d n g v ≡ trueBelow fs (withSlots d s) n g v) → (e : Bool)
-        → cond e (readsNoSlot op && every (throughout readsNoSlot fs n) (parts_of op (at fs.lefts f) (at fs.rights f)))
-        (throughout readsNoSlot fs n f) ≡ true
-        → cond e (meaning c op (at fs.lefts f) (at fs.rights f) (λ d. trueBelow fs d n) here) (trueBelow fs c n f here)
-        ≡ cond e (meaning (withSlots c ss) op (at fs.lefts f) (at fs.rights f) (λ d. trueBelow fs d n) here)
-        (trueBelow fs (withSlots c ss) n f here)
+    go : ((d : Context) (s : List Slot) (g v : ℕ) → throughout reads_no_slot fs n g ≡ true
+        → true_below fs d n g v ≡ true_below fs (with_slots d s) n g v) → (e : Bool)
+        → cond e (reads_no_slot op && every (throughout reads_no_slot fs n) (parts_of op (at fs.lefts f) (at fs.rights f)))
+        (throughout reads_no_slot fs n f) ≡ true
+        → cond e (meaning c op (at fs.lefts f) (at fs.rights f) (λ d. true_below fs d n) here) (true_below fs c n f here)
+        ≡ cond e (meaning (with_slots c ss) op (at fs.lefts f) (at fs.rights f) (λ d. true_below fs d n) here)
+        (true_below fs (with_slots c ss) n f here)
     go ih true t =
-        let (r, parts) = and_cases (readsNoSlot op) _ t in
-        same-slots (throughout readsNoSlot fs n) (λ d. trueBelow fs d n) ih c ss op _ _ here r parts
+        let (r, parts) = and_cases (reads_no_slot op) _ t in
+        same_slots (throughout reads_no_slot fs n) (λ d. true_below fs d n) ih c ss op _ _ here r parts
     go ih false t = ih c ss f here t
 
 -- THE LAW: a formula with ops 0 to 8 alone, in it and below it, means what document 01 alone says, whatever the slots hold
-pub first-meaning : (fs : Formulas) (n : ℕ) (c : Context) (f here : ℕ) → throughout hasNoSlot fs n f ≡ true
-    → trueBelow fs c n f here
-    ≡ firstBelow fs (record { roles = c.roles; edges = c.edges; object = c.object; requestor = c.requestor }) n f here
-unfolding trueBelow firstBelow throughout
-first-meaning fs zero c f here t = refl
-first-meaning fs (suc n) c f here t = go (first-meaning fs n c) (eqb f n) t
+pub first_meaning_lem : (fs : Formulas) (n : ℕ) (c : Context) (f here : ℕ) → throughout has_no_slot fs n f ≡ true
+    → true_below fs c n f here
+    ≡ first_below fs (record { roles = c.roles; edges = c.edges; object = c.object; requestor = c.requestor }) n f here
+unfolding true_below first_below throughout
+first_meaning_lem fs zero c f here t = refl
+first_meaning_lem fs (suc n) c f here t = go (first_meaning_lem fs n c) (eqb f n) t
   where
     op : Op
     op = op_of (at fs.ops f)
@@ -226,20 +226,20 @@ first-meaning fs (suc n) c f here t = go (first-meaning fs n c) (eqb f n) t
     old : FirstContext
     old = record { roles = c.roles; edges = c.edges; object = c.object; requestor = c.requestor }
 
-    go : ((g v : ℕ) → throughout hasNoSlot fs n g ≡ true → trueBelow fs c n g v ≡ firstBelow fs old n g v) → (e : Bool)
-        → cond e (hasNoSlot op && every (throughout hasNoSlot fs n) (parts_of op (at fs.lefts f) (at fs.rights f)))
-        (throughout hasNoSlot fs n f) ≡ true
-        → cond e (meaning c op (at fs.lefts f) (at fs.rights f) (λ d. trueBelow fs d n) here) (trueBelow fs c n f here)
-        ≡ cond e (firstMeaning old op (at fs.lefts f) (at fs.rights f) (firstBelow fs old n) here) (firstBelow fs old n f here)
+    go : ((g v : ℕ) → throughout has_no_slot fs n g ≡ true → true_below fs c n g v ≡ first_below fs old n g v) → (e : Bool)
+        → cond e (has_no_slot op && every (throughout has_no_slot fs n) (parts_of op (at fs.lefts f) (at fs.rights f)))
+        (throughout has_no_slot fs n f) ≡ true
+        → cond e (meaning c op (at fs.lefts f) (at fs.rights f) (λ d. true_below fs d n) here) (true_below fs c n f here)
+        ≡ cond e (first_meaning old op (at fs.lefts f) (at fs.rights f) (first_below fs old n) here) (first_below fs old n f here)
     go ih true t =
-        let (r, parts) = and_cases (hasNoSlot op) _ t in
-        same_first (throughout hasNoSlot fs n) (λ d. trueBelow fs d n) (firstBelow fs old n) c ih op _ _ here r parts
+        let (r, parts) = and_cases (has_no_slot op) _ t in
+        same_first (throughout has_no_slot fs n) (λ d. true_below fs d n) (first_below fs old n) c ih op _ _ here r parts
     go ih false t = ih f here t
 
 -- of a record: a formula with ops 0 to 8 alone
-pub holds-first : (r : Record) (es : List (List ℕ)) (f here o s : ℕ)
-    → throughout hasNoSlot (formulasOf r) r.formula_count f ≡ true
-    → holdsOn r es f here o s
-    ≡ firstBelow (formulasOf r) (record { roles = holdsRole r s; edges = es; object = o; requestor = s }) r.formula_count f here
-unfolding holdsOn
-holds-first r es f here o s t = first-meaning (formulasOf r) r.formula_count (contextOn r es o s) f here t
+pub holds_first : (r : Record) (es : List (List ℕ)) (f here o s : ℕ)
+    → throughout has_no_slot (formulas_of r) r.formula_count f ≡ true
+    → holds_on r es f here o s
+    ≡ first_below (formulas_of r) (record { roles = holds_role r s; edges = es; object = o; requestor = s }) r.formula_count f here
+unfolding holds_on
+holds_first r es f here o s t = first_meaning_lem (formulas_of r) r.formula_count (context_on r es o s) f here t

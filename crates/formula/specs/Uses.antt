@@ -46,35 +46,35 @@ throughout p fs (suc n) f =
     (throughout p fs n f)
 
 -- neither op 10 nor op 11, which read a slot; none of the ops 9 to 11
-abbrev pub readsNoSlot : Op → Bool
-readsNoSlot always = true
-readsNoSlot requestor = true
-readsNoSlot object = true
-readsNoSlot role = true
-readsNoSlot negation = true
-readsNoSlot conjunction = true
-readsNoSlot disjunction = true
-readsNoSlot forward = true
-readsNoSlot backward = true
-readsNoSlot keeping = true
-readsNoSlot in_slot = false
-readsNoSlot atSlot = false
-readsNoSlot unknown = true
+abbrev pub reads_no_slot : Op → Bool
+reads_no_slot always = true
+reads_no_slot requestor = true
+reads_no_slot object = true
+reads_no_slot role = true
+reads_no_slot negation = true
+reads_no_slot conjunction = true
+reads_no_slot disjunction = true
+reads_no_slot forward = true
+reads_no_slot backward = true
+reads_no_slot keeping = true
+reads_no_slot in_slot = false
+reads_no_slot atSlot = false
+reads_no_slot unknown = true
 
-abbrev pub hasNoSlot : Op → Bool
-hasNoSlot always = true
-hasNoSlot requestor = true
-hasNoSlot object = true
-hasNoSlot role = true
-hasNoSlot negation = true
-hasNoSlot conjunction = true
-hasNoSlot disjunction = true
-hasNoSlot forward = true
-hasNoSlot backward = true
-hasNoSlot keeping = false
-hasNoSlot in_slot = false
-hasNoSlot atSlot = false
-hasNoSlot unknown = true
+abbrev pub has_no_slot : Op → Bool
+has_no_slot always = true
+has_no_slot requestor = true
+has_no_slot object = true
+has_no_slot role = true
+has_no_slot negation = true
+has_no_slot conjunction = true
+has_no_slot disjunction = true
+has_no_slot forward = true
+has_no_slot backward = true
+has_no_slot keeping = false
+has_no_slot in_slot = false
+has_no_slot atSlot = false
+has_no_slot unknown = true
 
 -- the formula (op, a, b) reads what slot k holds where it is evaluated: an op 9 on slot k hides that from its part.
 -- `part g` says whether formula g does
@@ -94,9 +94,9 @@ reads_of atSlot a b part k = eqb a k || part b
 reads_of unknown a b part k = false
 
 -- formula f, where it is below n
-unfoldable pub readsSlot : Formulas → ℕ → ℕ → ℕ → Bool
-readsSlot fs zero f k = false
-readsSlot fs (suc n) f k =
+unfoldable pub reads_slot : Formulas → ℕ → ℕ → ℕ → Bool
+reads_slot fs zero f k = false
+reads_slot fs (suc n) f k =
     cond (eqb f n)
-    (reads_of (op_of (at fs.ops f)) (at fs.lefts f) (at fs.rights f) (λ g. readsSlot fs n g k) k)
-    (readsSlot fs n f k)
+    (reads_of (op_of (at fs.ops f)) (at fs.lefts f) (at fs.rights f) (λ g. reads_slot fs n g k) k)
+    (reads_slot fs n f k)

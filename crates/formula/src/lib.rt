@@ -2,13 +2,13 @@
 // lent, so that none is copied.
 
 ghost use Rattle.std.specs.Prelude.{◌≡◌, false, ◌&&◌, List, ℕ, ◌≤◌, ◌<◌, eqb};
-ghost use Rattle.common.specs.Limits.{mostUsers, mostFormulas};
+ghost use Rattle.common.specs.Limits.{most_users, most_formulas};
 ghost use Rattle.common.specs.Sets.{member};
 ghost use Rattle.rows.specs.Op.{op_of};
-ghost use Rattle.vertices.specs.Steps.{isIn, noVertex, placed};
-ghost use Rattle.formula.specs.Formula.{trueOf, keep};
-ghost use Rattle.formula.specs.Uses.{reads_of, readsSlot};
-ghost use Rattle.formula.specs.Evaluation.{formulasIn, slot_of, slotIn, contextIn, holdsRoleIn, PlaceOf, PlaceBelow};
+ghost use Rattle.vertices.specs.Steps.{is_in, no_vertex, placed};
+ghost use Rattle.formula.specs.Formula.{true_of, keep};
+ghost use Rattle.formula.specs.Uses.{reads_of, reads_slot};
+ghost use Rattle.formula.specs.Evaluation.{formulas_in, slot_of, slot_in, context_in, holds_role_in, PlaceOf, PlaceBelow};
 
 use common::{HIGHEST_ROLE, HIGHEST_SLOT, MOST_FORMULAS, MOST_USERS, SLOT_COUNT};
 use vertices::{EVERY_VERTEX, NO_VERTEX};
@@ -48,7 +48,7 @@ fn index(x: u8) -> usize
 
 // The vertex in slot a; 256 where it is unset, or there is no such slot.
 pub fn slot_vertex(q: ContextNumbers, a: u8) -> u16
-    ensures { slot_of result ≡ slotIn q a }
+    ensures { slot_of result ≡ slot_in q a }
 {
     if HIGHEST_SLOT < a {
         return NO_VERTEX;
@@ -60,7 +60,7 @@ pub fn slot_vertex(q: ContextNumbers, a: u8) -> u16
 // With the vertex v kept in slot a, whatever that held.
 pub fn keeping(mut q: ContextNumbers, a: u8, v: u8) -> ContextNumbers
     ensures { (result.edge_count ≡ q.edge_count) × ((labels from to : List ℕ) →
-        contextIn result labels from to ≡ keep (contextIn q labels from to) a v) }
+        context_in result labels from to ≡ keep (context_in q labels from to) a v) }
 {
     if a <= HIGHEST_SLOT {
         let i = a as usize;
@@ -71,7 +71,7 @@ pub fn keeping(mut q: ContextNumbers, a: u8, v: u8) -> ContextNumbers
 
 // Formula g is marked.
 fn is_marked(marks: [bool; MOST_FORMULAS], g: u8) -> bool
-    ensures { result ≡ isIn marks g }
+    ensures { result ≡ is_in marks g }
 {
     let i = index(g);
     if i < MOST_FORMULAS {
@@ -82,7 +82,7 @@ fn is_marked(marks: [bool; MOST_FORMULAS], g: u8) -> bool
 
 // The formula (op, left, right) reads slot a, where the formulas that do are marked among those below it.
 fn reads_by_parts<'a>(op: u8, left: u8, right: u8, a: u8, marks: &'a [bool; MOST_FORMULAS]) -> bool
-    ensures { result ≡ reads_of (op_of op) left right (isIn marks.now) a }
+    ensures { result ≡ reads_of (op_of op) left right (is_in marks.now) a }
 {
     let x = is_marked(*marks, left);
     let y = is_marked(*marks, right);
@@ -106,8 +106,8 @@ pub fn reads_slot<'a>(
     f: u8,
     a: u8,
 ) -> bool
-    requires { n ≤ mostFormulas }
-    ensures { result ≡ readsSlot (formulasIn ops.now lefts.now rights.now) n f a }
+    requires { n ≤ most_formulas }
+    ensures { result ≡ reads_slot (formulas_in ops.now lefts.now rights.now) n f a }
 {
     let mut marks = [false; MOST_FORMULAS];
     let mut i = 0;
@@ -122,7 +122,7 @@ pub fn reads_slot<'a>(
 
 // Where op 10 is true: at the vertex in slot a; nowhere if there is none.
 fn slot_place(q: ContextNumbers, a: u8) -> u16
-    ensures { (result ≤ noVertex) × ((v : ℕ) → placed result v ≡ trueOf (slotIn q a) (λ w. eqb v w)) }
+    ensures { (result ≤ no_vertex) × ((v : ℕ) → placed result v ≡ true_of (slot_in q a) (λ w. eqb v w)) }
 {
     let v = slot_vertex(q, a);
     if NO_VERTEX <= v {
@@ -161,7 +161,7 @@ pub fn place_below<'a>(
     n: usize,
     f: usize,
 ) -> u16
-    requires { n ≤ mostFormulas }
+    requires { n ≤ most_formulas }
     ensures { PlaceBelow q ops.now lefts.now n f result }
 {
     if n <= f {
@@ -189,8 +189,8 @@ pub fn roles_of<'a>(
     roles: &'a [u16; MOST_USERS],
     requestor: u8,
 ) -> u16
-    requires { count ≤ mostUsers }
-    ensures { (a : ℕ) → member a result ≡ holdsRoleIn count objects.now roles.now requestor a }
+    requires { count ≤ most_users }
+    ensures { (a : ℕ) → member a result ≡ holds_role_in count objects.now roles.now requestor a }
 {
     let mut held: u16 = 0;
     let mut i = 0;

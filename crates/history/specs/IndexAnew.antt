@@ -2,14 +2,14 @@
 use Rattle.std.specs.Prelude.{ℕ, ◌≡◌, List}
 use Rattle.std.proofs.Common.{sym, subst}
 use Rattle.edge_index.specs.Index.{Indexes}
-use Rattle.edge_index.specs.IndexLaws.{indexes-of}
+use Rattle.edge_index.specs.IndexLaws.{indexes_of}
 use Rattle.policy.specs.declared.Record.{Record}
 use Rattle.policy.specs.Table.{edge, rows, index_of, indexed}
-use Rattle.policy.specs.LoadableLaws.{own-index}
-use Rattle.policy.specs.RecordIndexLaws.{loadable-indexed, built-anew}
+use Rattle.policy.specs.LoadableLaws.{own_index}
+use Rattle.policy.specs.RecordIndexLaws.{loadable_indexed, built_anew}
 use Rattle.reading.specs.Loading.{load}
-use Rattle.history.specs.Book.{Call, firstBook, engineAfter}
-use Rattle.history.specs.Theorem.{start, list-agrees}
+use Rattle.history.specs.Book.{Call, first_book, engine_after}
+use Rattle.history.specs.Theorem.{start, list_agrees}
 
 -- the record's index is the one of its edges: as `index_of` builds it from their list, as loading builds it into a record, and by what holds
 -- of it (each label's first place and number; the places ordered by label, then to, then from; unused places zero)
@@ -19,14 +19,14 @@ pub record IndexAnew (r : Record) : Type 0 where
   pub indexes : Indexes r.edge_count r.edge_labels r.edge_sources r.edge_targets r.index
 
 -- THE THEOREM, of every text that loads and every list of calls: edits, and questions and tickets between them, refused ones included
-pub index-anew : (text : List ℕ) → (load text).number ≡ 0 → (calls : List Call) → IndexAnew (engineAfter (load text).rules calls)
-index-anew text e calls =
-    let r = engineAfter (load text).rules calls in
-    let loads = (list-agrees (load text).rules calls (firstBook text) (load text).rules (start text e)).loads in
-    let i = loadable-indexed r loads in
+pub index_anew : (text : List ℕ) → (load text).number ≡ 0 → (calls : List Call) → IndexAnew (engine_after (load text).rules calls)
+index_anew text e calls =
+    let r = engine_after (load text).rules calls in
+    let loads = (list_agrees (load text).rules calls (first_book text) (load text).rules (start text e)).loads in
+    let i = loadable_indexed r loads in
     record {
-      built = own-index r loads;
-      loaded = built-anew r loads;
+      built = own_index r loads;
+      loaded = built_anew r loads;
       indexes =
-          subst (Indexes r.edge_count r.edge_labels r.edge_sources r.edge_targets) (sym i.index) (indexes-of i.rises);
+          subst (Indexes r.edge_count r.edge_labels r.edge_sources r.edge_targets) (sym i.index) (indexes_of i.rises);
     }

@@ -5,57 +5,57 @@ use Rattle.std.proofs.Common.{◌∙◌, ap, subst, arith, eqb-true, eq-eqb, ne_
 use Rattle.std.proofs.Math.Bool.{true, false, false≢true}
 use Rattle.std.proofs.Math.Option.{Option, none, some}
 use Rattle.std.proofs.lemmas.Bool.{eqb-false, lt-leb}
-use Rattle.common.specs.Limits.{mostEdges}
+use Rattle.common.specs.Limits.{most_edges}
 use Rattle.common.specs.Lists.{same}
 use Rattle.common.specs.BoolLaws.{or_left}
 use Rattle.common.specs.Causes.{cause, first}
-use Rattle.common.specs.ListLaws.{length-table, same_self}
-use Rattle.common.specs.Refusals.{edgeOutOfRange, edgePresent, edgeAbsent, edgesFull, noMethod, noObject, notUser, noSet}
+use Rattle.common.specs.ListLaws.{length_table, same_self}
+use Rattle.common.specs.Refusals.{edge_out_of_range, edge_present, edge_absent, edges_full, no_method, no_object, not_user, no_set}
 use Rattle.policy.specs.declared.Record.{Record}
 use Rattle.policy.specs.Table.{edge, row}
-use Rattle.rows.specs.Checks.{edgeInRange}
+use Rattle.rows.specs.Checks.{edge_in_range}
 use Rattle.policy.specs.Edits.{without, added, removed}
-use Rattle.formula.specs.Formula.{isUser}
+use Rattle.formula.specs.Formula.{is_user}
 use Rattle.justification.specs.declared.Question.{Question}
-use Rattle.justification.specs.Justification.{roleCount, least}
-use Rattle.justification.specs.SatisfyingLaws.{passes, passes-satisfies, satisfies-inside, satisfies-passes}
-use Rattle.justification.specs.Predicates.{questionRefusal}
+use Rattle.justification.specs.Justification.{role_count, least}
+use Rattle.justification.specs.SatisfyingLaws.{passes, passes_satisfies, satisfies_inside, satisfies_passes}
+use Rattle.justification.specs.Predicates.{question_refusal}
 use Rattle.justification.specs.Order.{IsLeast}
 use Rattle.justification.specs.OrderFact as order
 use Rattle.reading.specs.Loading.{load}
-use Rattle.reading.specs.LoadingLaws.{as-loaded}
+use Rattle.reading.specs.LoadingLaws.{as_loaded}
 use Rattle.access.specs.declared.Answer.{Answer}
 use Rattle.access.specs.Access.{refused, eager, lazy}
-use Rattle.access.specs.AccessLaws.{eager-counts, lazy-counts, same-always, lazy-at-most}
+use Rattle.access.specs.AccessLaws.{eager_counts, lazy_counts, same_always, lazy_at_most}
 use Rattle.access.specs.CorrectMemo.{CorrectMemo}
-use Rattle.access.specs.CorrectMemoLaws.{emptied-correct}
-use Rattle.memo.specs.Memo.{memoFor, newly}
+use Rattle.access.specs.CorrectMemoLaws.{emptied_correct}
+use Rattle.memo.specs.Memo.{memo_for, newly}
 use Rattle.memo.specs.WalkLaws.{MemoLengths}
 use Rattle.search.specs.Search.{Before}
-use Rattle.search.specs.SearchLaws.{before-members, before-role-count}
+use Rattle.search.specs.SearchLaws.{before_members, before_role_count}
 use Rattle.tickets.specs.declared.Ticket.{Ticket}
-use Rattle.tickets.specs.Tickets.{ticketOf, ticketRefusal, SetNumber}
-use Rattle.tickets.specs.TicketLaws.{set-number, ticket-after}
-use Rattle.history.specs.Book.{Call, add, remove, askEagerly, askLazily, checkTicket, Book, BookAnswer, firstBook, holdsEdge}
-use Rattle.history.specs.Book.{addRefusal, removeRefusal, checkRefusal}
-use Rattle.history.specs.Book.{askRefusal, verdict, enabledIn, ask, bookAfterCall, bookAfter, numberAndSet, engineLeaves, engineAfter}
+use Rattle.tickets.specs.Tickets.{ticket_of, ticket_refusal, SetNumber}
+use Rattle.tickets.specs.TicketLaws.{set_number, ticket_after}
+use Rattle.history.specs.Book.{Call, add, remove, askEagerly, askLazily, check_ticket, Book, BookAnswer, first_book, holds_edge}
+use Rattle.history.specs.Book.{add_refusal, remove_refusal, check_refusal}
+use Rattle.history.specs.Book.{ask_refusal, verdict, enabled_in, ask, book_after_call, book_after, number_and_set, engine_leaves, engine_after}
 use Rattle.history.specs.Agrees.{Distinct, Agrees}
-use Rattle.history.specs.EditAgrees.{distinct-rows, add-number, add-agrees, add-refused, remove-number, remove-agrees, remove-refused}
-use Rattle.history.specs.EditAgrees.{emptied-lengths, without-holds}
-use Rattle.history.specs.AskAgrees.{refusal_is, check-number, eager-answer, eager-agrees, eager-refused, lazy-answer, lazy-agrees, lazy-refused}
-use Rattle.history.specs.FirstBook.{first-edges}
+use Rattle.history.specs.EditAgrees.{distinct_rows, add_number_lem, add_agrees, add_refused, remove_number_lem, remove_agrees, remove_refused}
+use Rattle.history.specs.EditAgrees.{emptied_lengths, without_holds}
+use Rattle.history.specs.AskAgrees.{refusal_is, check_number, eager_answer, eager_agrees, eager_refused, lazy_answer, lazy_agrees, lazy_refused}
+use Rattle.history.specs.FirstBook.{first_edges}
 use Rattle.history.specs.Demand3.{Changes, EditHolds, Known, Satisfies, QuestionHolds, BothForms, GrantHolds, NoMoreMembers}
 use Rattle.history.specs.Demand3.{TicketHolds, CallHolds, ListHolds, Demand3}
 
 -- ---- edits
 
 -- an edit of a book that is refused leaves it, and one that is accepted changes it
-edit-holds : (before after : Book) (n number : ℕ) (r left : Record) → number ≡ n → (n ≡ 0 → Changes before after) → (n ≢ 0 → after ≡ before)
+edit_holds : (before after : Book) (n number : ℕ) (r left : Record) → number ≡ n → (n ≡ 0 → Changes before after) → (n ≢ 0 → after ≡ before)
     → (n ≢ 0 → left ≡ r)
     → EditHolds before after number r left
-edit-holds before after n number r left e changes stays keeps =
+edit_holds before after n number r left e changes stays keeps =
     record {
-      accepted = (λ z. changes (sym e ∙ z), λ (d, f). decide n e (λ x. absurd (f (ap (λ (k : Book). holdsEdge k d) (sym (stays x))))));
+      accepted = (λ z. changes (sym e ∙ z), λ (d, f). decide n e (λ x. absurd (f (ap (λ (k : Book). holds_edge k d) (sym (stays x))))));
       refused = λ x. (keeps (λ z. x (e ∙ z)), stays (λ z. x (e ∙ z)));
     }
   where
@@ -67,12 +67,12 @@ edit-holds before after n number r left e changes stays keeps =
         go false u = absurd (f (eqb-false k 0 u))
 
 -- what an accepted edit says of its edge
-absent : (x y z : Bool) → first (cause edgeOutOfRange x ∷ cause edgePresent y ∷ cause edgesFull z ∷ []) ≡ 0 → y ≡ false
+absent : (x y z : Bool) → first (cause edge_out_of_range x ∷ cause edge_present y ∷ cause edges_full z ∷ []) ≡ 0 → y ≡ false
 absent true y z e = absurd (omega arith)
 absent false true z e = absurd (omega arith)
 absent false false z e = refl
 
-present : (x y : Bool) → first (cause edgeOutOfRange x ∷ cause edgeAbsent (not y) ∷ []) ≡ 0 → y ≡ true
+present : (x y : Bool) → first (cause edge_out_of_range x ∷ cause edge_absent (not y) ∷ []) ≡ 0 → y ≡ true
 present true y e = absurd (omega arith)
 present false true e = refl
 present false false e = absurd (omega arith)
@@ -83,51 +83,51 @@ module _ (b : Record) (book : Book) (r : Record) (h : Agrees b book r) where
     it = l ∷ x ∷ y ∷ []
 
     add_holds : CallHolds b book r (add l x y)
-    unfolding bookAfterCall
+    unfolding book_after_call
     add_holds =
-        edit-holds book (cond (eqb (addRefusal b book l x y) 0) (it ∷ book) book) (addRefusal b book l x y) (added r l x y).number r
-        (added r l x y).rules (add-number b book r h l x y)
+        edit_holds book (cond (eqb (add_refusal b book l x y) 0) (it ∷ book) book) (add_refusal b book l x y) (added r l x y).number r
+        (added r l x y).rules (add_number_lem b book r h l x y)
         (λ z. (
           it,
           λ e.
-              let no : holdsEdge book it ≡ false = absent (not (edgeInRange b.objects l x y)) (holdsEdge book it)
-              (leb mostEdges (length book)) z in
-              let now : holdsEdge (cond (eqb (addRefusal b book l x y) 0) (it ∷ book) book) it ≡ true = rw
-              (eq-eqb (addRefusal b book l x y) 0 z) (or_left (same it it) (holdsEdge book it) (same_self it)) in
+              let no : holds_edge book it ≡ false = absent (not (edge_in_range b.objects l x y)) (holds_edge book it)
+              (leb most_edges (length book)) z in
+              let now : holds_edge (cond (eqb (add_refusal b book l x y) 0) (it ∷ book) book) it ≡ true = rw
+              (eq-eqb (add_refusal b book l x y) 0 z) (or_left (same it it) (holds_edge book it) (same_self it)) in
               false≢true (sym no ∙ e ∙ now),
         ))
-        (λ z. rw (ne_eqb (addRefusal b book l x y) 0 z) refl)
-        (λ z. add-refused b book r h l x y (ne_eqb (addRefusal b book l x y) 0 z))
+        (λ z. rw (ne_eqb (add_refusal b book l x y) 0 z) refl)
+        (λ z. add_refused b book r h l x y (ne_eqb (add_refusal b book l x y) 0 z))
 
-    remove-holds : CallHolds b book r (remove l x y)
-    unfolding bookAfterCall
-    remove-holds =
-        edit-holds book (cond (eqb (removeRefusal b book l x y) 0) (without it book) book) (removeRefusal b book l x y)
+    remove_holds : CallHolds b book r (remove l x y)
+    unfolding book_after_call
+    remove_holds =
+        edit_holds book (cond (eqb (remove_refusal b book l x y) 0) (without it book) book) (remove_refusal b book l x y)
         (removed r l x y).number r (removed r l x y).rules
-        (remove-number b book r h l x y)
+        (remove_number_lem b book r h l x y)
         (λ z. (
           it,
           λ e.
-              let was : holdsEdge book it ≡ true = present (not (edgeInRange b.objects l x y)) (holdsEdge book it) z in
-              let now : holdsEdge (cond (eqb (removeRefusal b book l x y) 0) (without it book) book) it ≡ false = rw
-              (eq-eqb (removeRefusal b book l x y) 0 z) (without-holds it it book ∙ rw (same_self it) refl) in
+              let was : holds_edge book it ≡ true = present (not (edge_in_range b.objects l x y)) (holds_edge book it) z in
+              let now : holds_edge (cond (eqb (remove_refusal b book l x y) 0) (without it book) book) it ≡ false = rw
+              (eq-eqb (remove_refusal b book l x y) 0 z) (without_holds it it book ∙ rw (same_self it) refl) in
               false≢true (sym now ∙ sym e ∙ was),
         ))
-        (λ z. rw (ne_eqb (removeRefusal b book l x y) 0 z) refl)
-        (λ z. remove-refused b book r h l x y (ne_eqb (removeRefusal b book l x y) 0 z))
+        (λ z. rw (ne_eqb (remove_refusal b book l x y) 0 z) refl)
+        (λ z. remove_refused b book r h l x y (ne_eqb (remove_refusal b book l x y) 0 z))
 
   -- ---- questions
 
   module _ (q : Question) where
     -- a known method, object and user is what is not refused
-    known-asked : Known b q → askRefusal b q ≡ 0
-    known-asked k = rw (lt-leb b.method_count q.method k.method, lt-leb b.objects q.object k.object, k.user) refl
+    known_asked : Known b q → ask_refusal b q ≡ 0
+    known_asked k = rw (lt-leb b.method_count q.method k.method, lt-leb b.objects q.object k.object, k.user) refl
 
-    asked-known : askRefusal b q ≡ 0 → Known b q
-    asked-known z = go (leb b.method_count q.method) (leb b.objects q.object) (isUser b q.requestor) refl refl refl z
+    asked_known : ask_refusal b q ≡ 0 → Known b q
+    asked_known z = go (leb b.method_count q.method) (leb b.objects q.object) (is_user b q.requestor) refl refl refl z
       where
-        go : (u v w : Bool) → leb b.method_count q.method ≡ u → leb b.objects q.object ≡ v → isUser b q.requestor ≡ w
-            → first (cause noMethod u ∷ cause noObject v ∷ cause notUser (not w) ∷ []) ≡ 0 → Known b q
+        go : (u v w : Bool) → leb b.method_count q.method ≡ u → leb b.objects q.object ≡ v → is_user b q.requestor ≡ w
+            → first (cause no_method u ∷ cause no_object v ∷ cause not_user (not w) ∷ []) ≡ 0 → Known b q
         go true v w p i t e = absurd (omega arith)
         go false true w p i t e = absurd (omega arith)
         go false false true p i t e =
@@ -135,135 +135,135 @@ module _ (b : Record) (book : Book) (r : Record) (h : Agrees b book r) where
         go false false false p i t e = absurd (omega arith)
 
     -- the sets that will do are those that pass
-    abbrev will-do : ℕ → Bool
-    will-do c = passes b q.method (enabledIn b book q) c
+    abbrev will_do : ℕ → Bool
+    will_do c = passes b q.method (enabled_in b book q) c
 
-    does : (c : ℕ) → c < 2 ^ b.principal_count → will-do c ≡ true → Satisfies b book q c
-    does = passes-satisfies b q.method (enabledIn b book q)
+    does : (c : ℕ) → c < 2 ^ b.principal_count → will_do c ≡ true → Satisfies b book q c
+    does = passes_satisfies b q.method (enabled_in b book q)
 
-    least-does : IsLeast (roleCount b) b.principal_count will-do (least b q.method (enabledIn b book q))
-    least-does = order.least-is b q.method (enabledIn b book q)
+    least_does : IsLeast (role_count b) b.principal_count will_do (least b q.method (enabled_in b book q))
+    least_does = order.least_is b q.method (enabled_in b book q)
 
     -- such a set, as a number that is looked for
-    found_among : {P : Type 0} (c : ℕ) → (c < 2 ^ b.principal_count → will-do c ≡ true → P) → Satisfies b book q c → P
-    found_among c f w = f (satisfies-inside b q.method (enabledIn b book q) w) (satisfies-passes b q.method (enabledIn b book q) c w)
+    found_among : {P : Type 0} (c : ℕ) → (c < 2 ^ b.principal_count → will_do c ≡ true → P) → Satisfies b book q c → P
+    found_among c f w = f (satisfies_inside b q.method (enabled_in b book q) w) (satisfies_passes b q.method (enabled_in b book q) c w)
 
     -- what the verdict of a least set says
-    module _ (found : Option ℕ) (is : IsLeast (roleCount b) b.principal_count will-do found) where
-      verdict-denied : ((verdict found).number ≡ noSet) ↔ ((c : ℕ) → Satisfies b book q c → ⊥)
-      verdict-denied = go found is
+    module _ (found : Option ℕ) (is : IsLeast (role_count b) b.principal_count will_do found) where
+      verdict_denied : ((verdict found).number ≡ no_set) ↔ ((c : ℕ) → Satisfies b book q c → ⊥)
+      verdict_denied = go found is
         where
-          go : (f : Option ℕ) → IsLeast (roleCount b) b.principal_count will-do f
-              → (((verdict f).number ≡ noSet) ↔ ((c : ℕ) → Satisfies b book q c → ⊥))
+          go : (f : Option ℕ) → IsLeast (role_count b) b.principal_count will_do f
+              → (((verdict f).number ≡ no_set) ↔ ((c : ℕ) → Satisfies b book q c → ⊥))
           go none n = (λ e c w. found_among c (n c) w, λ f. refl)
           go (some c) n = (λ e. absurd (omega arith), λ f. absurd (f c (does c n.0 n.1)))
 
-      verdict-empty : (verdict found).number ≡ noSet → (verdict found).set ≡ 0
-      verdict-empty = go found
+      verdict_empty : (verdict found).number ≡ no_set → (verdict found).set ≡ 0
+      verdict_empty = go found
         where
-          go : (f : Option ℕ) → (verdict f).number ≡ noSet → (verdict f).set ≡ 0
+          go : (f : Option ℕ) → (verdict f).number ≡ no_set → (verdict f).set ≡ 0
           go none e = refl
           go (some c) e = absurd (omega arith)
 
-      verdict-granted : (verdict found).number ≢ noSet
+      verdict_granted : (verdict found).number ≢ no_set
           → ((verdict found).number ≡ 0) × Satisfies b book q (verdict found).set
-          × ((c : ℕ) → Satisfies b book q c → Before (roleCount b) (verdict found).set c)
-      verdict-granted = go found is
+          × ((c : ℕ) → Satisfies b book q c → Before (role_count b) (verdict found).set c)
+      verdict_granted = go found is
         where
-          go : (f : Option ℕ) → IsLeast (roleCount b) b.principal_count will-do f
-              → (verdict f).number ≢ noSet
+          go : (f : Option ℕ) → IsLeast (role_count b) b.principal_count will_do f
+              → (verdict f).number ≢ no_set
               → ((verdict f).number ≡ 0) × Satisfies b book q (verdict f).set
-              × ((c : ℕ) → Satisfies b book q c → Before (roleCount b) (verdict f).set c)
+              × ((c : ℕ) → Satisfies b book q c → Before (role_count b) (verdict f).set c)
           go none n x = absurd (x refl)
           go (some c) n x = (refl, does c n.0 n.1, λ d w. found_among d (n.2 d) w)
 
     -- of any answer that is the book's reply
-    question-holds : (a : Answer) → numberAndSet a ≡ ask b book q
-        → (questionRefusal r q ≡ 0 → a.evaluations ≡ newly (memoFor r.memo q) a.rules.memo)
-        → (askRefusal b q ≢ 0 → a ≡ refused (askRefusal b q) r)
+    question_holds : (a : Answer) → number_and_set a ≡ ask b book q
+        → (question_refusal r q ≡ 0 → a.evaluations ≡ newly (memo_for r.memo q) a.rules.memo)
+        → (ask_refusal b q ≢ 0 → a ≡ refused (ask_refusal b q) r)
         → QuestionHolds b book q r a
-    question-holds a e count other =
+    question_holds a e count other =
         record {
           denied =
-              λ k. subst (λ (v : BookAnswer). (v.number ≡ noSet) ↔ ((c : ℕ) → Satisfies b book q c → ⊥)) (sym (is-verdict k))
-              (verdict-denied (least b q.method (enabledIn b book q)) least-does);
+              λ k. subst (λ (v : BookAnswer). (v.number ≡ no_set) ↔ ((c : ℕ) → Satisfies b book q c → ⊥)) (sym (is_verdict k))
+              (verdict_denied (least b q.method (enabled_in b book q)) least_does);
           empty =
-              λ k. subst (λ (v : BookAnswer). v.number ≡ noSet → v.set ≡ 0) (sym (is-verdict k))
-              (verdict-empty (least b q.method (enabledIn b book q)) least-does);
-          granted = is-least;
-          fewest = λ k n c w. before-members ((is-least k n).2 c w);
-          byRelation = λ k n c w e. before-role-count e ((is-least k n).2 c w);
-          counted = λ k. count (refusal_is b book r h q ∙ known-asked k);
+              λ k. subst (λ (v : BookAnswer). v.number ≡ no_set → v.set ≡ 0) (sym (is_verdict k))
+              (verdict_empty (least b q.method (enabled_in b book q)) least_does);
+          granted = is_least;
+          fewest = λ k n c w. before_members ((is_least k n).2 c w);
+          by_relation = λ k n c w e. before_role_count e ((is_least k n).2 c w);
+          counted = λ k. count (refusal_is b book r h q ∙ known_asked k);
           refused =
               λ n. (
                 ap (λ (x : Answer). x.rules) (turned n),
                 ap (λ (x : Answer). x.set) (turned n),
                 ap (λ (x : Answer). x.evaluations) (turned n),
                 λ z. n
-                    (asked-known (sym (ap (λ (x : Answer). x.number) (turned n)) ∙ z)),
+                    (asked_known (sym (ap (λ (x : Answer). x.number) (turned n)) ∙ z)),
               );
         }
       where
-        is-verdict : Known b q → numberAndSet a ≡ verdict (least b q.method (enabledIn b book q))
-        is-verdict k = e ∙ rw (eq-eqb (askRefusal b q) 0 (known-asked k)) refl
+        is_verdict : Known b q → number_and_set a ≡ verdict (least b q.method (enabled_in b book q))
+        is_verdict k = e ∙ rw (eq-eqb (ask_refusal b q) 0 (known_asked k)) refl
 
-        is-least : Known b q → a.number ≢ noSet
-            → (a.number ≡ 0) × Satisfies b book q a.set × ((c : ℕ) → Satisfies b book q c → Before (roleCount b) a.set c)
-        is-least k =
-            subst (λ (v : BookAnswer). v.number ≢ noSet → (v.number ≡ 0) × Satisfies b book q v.set ×
-            ((c : ℕ) → Satisfies b book q c → Before (roleCount b) v.set c)) (sym (is-verdict k))
-            (verdict-granted (least b q.method (enabledIn b book q)) least-does)
+        is_least : Known b q → a.number ≢ no_set
+            → (a.number ≡ 0) × Satisfies b book q a.set × ((c : ℕ) → Satisfies b book q c → Before (role_count b) a.set c)
+        is_least k =
+            subst (λ (v : BookAnswer). v.number ≢ no_set → (v.number ≡ 0) × Satisfies b book q v.set ×
+            ((c : ℕ) → Satisfies b book q c → Before (role_count b) v.set c)) (sym (is_verdict k))
+            (verdict_granted (least b q.method (enabled_in b book q)) least_does)
 
-        turned : (Known b q → ⊥) → a ≡ refused (askRefusal b q) r
-        turned n = other (λ z. n (asked-known z))
+        turned : (Known b q → ⊥) → a ≡ refused (ask_refusal b q) r
+        turned n = other (λ z. n (asked_known z))
 
-    eager-holds : QuestionHolds b book q r (eager r q)
-    eager-holds =
-        question-holds (eager r q) (eager-answer b book r h q) (eager-counts r q)
-        (λ z. eager-refused b book r h q (askRefusal b q) (sym (refusal_is b book r h q)) z)
+    eager_holds : QuestionHolds b book q r (eager r q)
+    eager_holds =
+        question_holds (eager r q) (eager_answer b book r h q) (eager_counts r q)
+        (λ z. eager_refused b book r h q (ask_refusal b q) (sym (refusal_is b book r h q)) z)
 
-    lazy-holds : QuestionHolds b book q r (lazy r q)
-    lazy-holds =
-        question-holds (lazy r q) (lazy-answer b book r h q) (lazy-counts r q)
-        (λ z. lazy-refused b book r h q (askRefusal b q) (sym (refusal_is b book r h q)) z)
+    lazy_holds : QuestionHolds b book q r (lazy r q)
+    lazy_holds =
+        question_holds (lazy r q) (lazy_answer b book r h q) (lazy_counts r q)
+        (λ z. lazy_refused b book r h q (ask_refusal b q) (sym (refusal_is b book r h q)) z)
 
     -- ---- a question's set as its ticket, and a ticket's question
 
     -- a ticket is accepted where the book's graph lets its set do
-    accepted-book : (c : ℕ) → Known b q → Satisfies b book q c → checkRefusal b book (ticketOf q c) ≡ 0
-    accepted-book c k w =
-        rw (eq-eqb (askRefusal b q) 0 (known-asked k)) ((set-number b (enabledIn b book q) q.method c).accepted.1 w)
+    accepted_book : (c : ℕ) → Known b q → Satisfies b book q c → check_refusal b book (ticket_of q c) ≡ 0
+    accepted_book c k w =
+        rw (eq-eqb (ask_refusal b q) 0 (known_asked k)) ((set_number b (enabled_in b book q) q.method c).accepted.1 w)
 
     -- a question that gets the number 0 was known
-    granted-known : (a : Answer) → QuestionHolds b book q r a → a.number ≡ 0 → Known b q
-    granted-known a hold z = go (eqb (askRefusal b q) 0) refl
+    granted_known : (a : Answer) → QuestionHolds b book q r a → a.number ≡ 0 → Known b q
+    granted_known a hold z = go (eqb (ask_refusal b q) 0) refl
       where
-        go : (v : Bool) → eqb (askRefusal b q) 0 ≡ v → Known b q
-        go true u = asked-known (eqb-true (askRefusal b q) 0 u)
-        go false u = absurd ((hold.refused (λ k. eqb-false (askRefusal b q) 0 u (known-asked k))).3 z)
+        go : (v : Bool) → eqb (ask_refusal b q) 0 ≡ v → Known b q
+        go true u = asked_known (eqb-true (ask_refusal b q) 0 u)
+        go false u = absurd ((hold.refused (λ k. eqb-false (ask_refusal b q) 0 u (known_asked k))).3 z)
 
-    granted-set : (a : Answer) → QuestionHolds b book q r a → a.number ≡ 0 → checkRefusal b book (ticketOf q a.set) ≡ 0
-    granted-set a hold z =
-        let k = granted-known a hold z in
-        accepted-book a.set k (hold.granted k (λ n. let x : ⊥ = omega arith in x)).1
+    granted_set : (a : Answer) → QuestionHolds b book q r a → a.number ≡ 0 → check_refusal b book (ticket_of q a.set) ≡ 0
+    granted_set a hold z =
+        let k = granted_known a hold z in
+        accepted_book a.set k (hold.granted k (λ n. let x : ⊥ = omega arith in x)).1
 
-    grant-holds : (a : Answer) → QuestionHolds b book q r a → Agrees b book a.rules → GrantHolds q r a
-    grant-holds a hold left =
+    grant_holds : (a : Answer) → QuestionHolds b book q r a → Agrees b book a.rules → GrantHolds q r a
+    grant_holds a hold left =
         record {
-          before = λ z. check-number b book r h (ticketOf q a.set) ∙ granted-set a hold z;
-          after = λ z. check-number b book a.rules left (ticketOf q a.set) ∙ granted-set a hold z;
+          before = λ z. check_number b book r h (ticket_of q a.set) ∙ granted_set a hold z;
+          after = λ z. check_number b book a.rules left (ticket_of q a.set) ∙ granted_set a hold z;
         }
 
     -- a set that will do: the question is granted with one that has no more members
-    no_more : (c : ℕ) (a : Answer) → QuestionHolds b book q r a → Known b q → Satisfies b book q c → NoMoreMembers (ticketOf q c) a
+    no_more : (c : ℕ) (a : Answer) → QuestionHolds b book q r a → Known b q → Satisfies b book q c → NoMoreMembers (ticket_of q c) a
     no_more c a hold k w =
-        let some : a.number ≢ noSet = λ n. (hold.denied k).0 n c w in
+        let some : a.number ≢ no_set = λ n. (hold.denied k).0 n c w in
         record { granted = (hold.granted k some).0; members = hold.fewest k some c w }
 
-    both-forms : BothForms r q
-    both-forms =
-        let s = same-always r q in
-        record { number = s.number; set = s.set; evaluations = lazy-at-most r q }
+    both_forms : BothForms r q
+    both_forms =
+        let s = same_always r q in
+        record { number = s.number; set = s.set; evaluations = lazy_at_most r q }
 
   -- ---- tickets
 
@@ -271,78 +271,78 @@ module _ (b : Record) (book : Book) (r : Record) (h : Agrees b book r) where
     abbrev asks : Question
     asks = t.question
 
-    tested : Known b asks → SetNumber b (enabledIn b book asks) asks.method t.set (ticketRefusal r t)
+    tested : Known b asks → SetNumber b (enabled_in b book asks) asks.method t.set (ticket_refusal r t)
     tested k =
-        subst (SetNumber b (enabledIn b book asks) asks.method t.set)
-        (sym (check-number b book r h t ∙ rw (eq-eqb (askRefusal b asks) 0 (known-asked asks k)) refl))
-        (set-number b (enabledIn b book asks) asks.method t.set)
+        subst (SetNumber b (enabled_in b book asks) asks.method t.set)
+        (sym (check_number b book r h t ∙ rw (eq-eqb (ask_refusal b asks) 0 (known_asked asks k)) refl))
+        (set_number b (enabled_in b book asks) asks.method t.set)
 
-    not_known : (Known b asks → ⊥) → questionRefusal r asks ≢ 0
-    not_known n z = n (asked-known asks (sym (refusal_is b book r h asks) ∙ z))
+    not_known : (Known b asks → ⊥) → question_refusal r asks ≢ 0
+    not_known n z = n (asked_known asks (sym (refusal_is b book r h asks) ∙ z))
 
-    accepted-known : ticketRefusal r t ≡ 0 → Known b asks
-    accepted-known z = go (eqb (questionRefusal r asks) 0) refl
+    accepted_known : ticket_refusal r t ≡ 0 → Known b asks
+    accepted_known z = go (eqb (question_refusal r asks) 0) refl
       where
-        go : (v : Bool) → eqb (questionRefusal r asks) 0 ≡ v → Known b asks
-        go true u = asked-known asks (sym (refusal_is b book r h asks) ∙ eqb-true (questionRefusal r asks) 0 u)
-        go false u = let n = eqb-false (questionRefusal r asks) 0 u in absurd (n (sym (ticket-after r t n) ∙ z))
+        go : (v : Bool) → eqb (question_refusal r asks) 0 ≡ v → Known b asks
+        go true u = asked_known asks (sym (refusal_is b book r h asks) ∙ eqb-true (question_refusal r asks) 0 u)
+        go false u = let n = eqb-false (question_refusal r asks) 0 u in absurd (n (sym (ticket_after r t n) ∙ z))
 
-    ticket-holds : TicketHolds b book t r (ticketRefusal r t) (engineLeaves r (checkTicket t))
-    unfolding engineLeaves
-    ticket-holds =
+    ticket_holds : TicketHolds b book t r (ticket_refusal r t) (engine_leaves r (check_ticket t))
+    unfolding engine_leaves
+    ticket_holds =
         record {
           tested = tested;
-          refused = λ n. let e = ticket-after r t (not_known n) in (λ z. not_known n (sym e ∙ z), e);
+          refused = λ n. let e = ticket_after r t (not_known n) in (λ z. not_known n (sym e ∙ z), e);
           left = refl;
-          eagerly = λ z. let k = accepted-known z in no_more asks t.set (eager r asks) (eager-holds asks) k ((tested k).accepted.0 z);
-          lazily = λ z. let k = accepted-known z in no_more asks t.set (lazy r asks) (lazy-holds asks) k ((tested k).accepted.0 z);
+          eagerly = λ z. let k = accepted_known z in no_more asks t.set (eager r asks) (eager_holds asks) k ((tested k).accepted.0 z);
+          lazily = λ z. let k = accepted_known z in no_more asks t.set (lazy r asks) (lazy_holds asks) k ((tested k).accepted.0 z);
         }
 
-  pub call-holds : (c : Call) → CallHolds b book r c
-  call-holds (add l x y) = add_holds l x y
-  call-holds (remove l x y) = remove-holds l x y
-  call-holds (askEagerly q) =
-      (eager-holds q, both-forms q, grant-holds q (eager r q) (eager-holds q) (eager-agrees b book r h q))
-  call-holds (askLazily q) = (lazy-holds q, both-forms q, grant-holds q (lazy r q) (lazy-holds q) (lazy-agrees b book r h q))
-  call-holds (checkTicket t) = ticket-holds t
+  pub call_holds : (c : Call) → CallHolds b book r c
+  call_holds (add l x y) = add_holds l x y
+  call_holds (remove l x y) = remove_holds l x y
+  call_holds (askEagerly q) =
+      (eager_holds q, both_forms q, grant_holds q (eager r q) (eager_holds q) (eager_agrees b book r h q))
+  call_holds (askLazily q) = (lazy_holds q, both_forms q, grant_holds q (lazy r q) (lazy_holds q) (lazy_agrees b book r h q))
+  call_holds (check_ticket t) = ticket_holds t
 
-  pub call-agrees : (c : Call) → Agrees b (bookAfterCall b book c) (engineLeaves r c)
-  unfolding bookAfterCall engineLeaves
-  call-agrees (add l x y) = add-agrees b book r h l x y
-  call-agrees (remove l x y) = remove-agrees b book r h l x y
-  call-agrees (askEagerly q) = eager-agrees b book r h q
-  call-agrees (askLazily q) = lazy-agrees b book r h q
-  call-agrees (checkTicket t) = h
+  pub call_agrees : (c : Call) → Agrees b (book_after_call b book c) (engine_leaves r c)
+  unfolding book_after_call engine_leaves
+  call_agrees (add l x y) = add_agrees b book r h l x y
+  call_agrees (remove l x y) = remove_agrees b book r h l x y
+  call_agrees (askEagerly q) = eager_agrees b book r h q
+  call_agrees (askLazily q) = lazy_agrees b book r h q
+  call_agrees (check_ticket t) = h
 
 -- ---- whole lists
 
-pub list-holds : (b : Record) (cs : List Call) (book : Book) (r : Record) → Agrees b book r → ListHolds b book r cs
-list-holds b [] book r h = tt
-list-holds b (c ∷ cs) book r h =
-    (call-holds b book r h c, list-holds b cs (bookAfterCall b book c) (engineLeaves r c) (call-agrees b book r h c))
+pub list_holds : (b : Record) (cs : List Call) (book : Book) (r : Record) → Agrees b book r → ListHolds b book r cs
+list_holds b [] book r h = tt
+list_holds b (c ∷ cs) book r h =
+    (call_holds b book r h c, list_holds b cs (book_after_call b book c) (engine_leaves r c) (call_agrees b book r h c))
 
 -- and the record that a list leaves agrees the book that it leaves
-pub list-agrees : (b : Record) (cs : List Call) (book : Book) (r : Record) → Agrees b book r → Agrees b (bookAfter b book cs) (engineAfter r cs)
-unfolding bookAfter engineAfter
-list-agrees b [] book r h = h
-list-agrees b (c ∷ cs) book r h = list-agrees b cs (bookAfterCall b book c) (engineLeaves r c) (call-agrees b book r h c)
+pub list_agrees : (b : Record) (cs : List Call) (book : Book) (r : Record) → Agrees b book r → Agrees b (book_after b book cs) (engine_after r cs)
+unfolding book_after engine_after
+list_agrees b [] book r h = h
+list_agrees b (c ∷ cs) book r h = list_agrees b cs (book_after_call b book c) (engine_leaves r c) (call_agrees b book r h c)
 
 -- a record just loaded agrees the book of its edge lines
-pub start : (text : List ℕ) → (load text).number ≡ 0 → Agrees (load text).rules (firstBook text) (load text).rules
+pub start : (text : List ℕ) → (load text).number ≡ 0 → Agrees (load text).rules (first_book text) (load text).rules
 start text e =
-    let g = as-loaded text e in
+    let g = as_loaded text e in
     let r = (load text).rules in
-    let same = first-edges text e in
+    let same = first_edges text e in
     record {
       loads = g.loads;
-      edges = λ d. ap (λ (es : Book). holdsEdge es d) same;
-      count = sym (length-table r.edge_count (λ i. row edge i r)) ∙ ap length same;
-      once = subst Distinct same (distinct-rows r g.loads);
+      edges = λ d. ap (λ (es : Book). holds_edge es d) same;
+      count = sym (length_table r.edge_count (λ i. row edge i r)) ∙ ap length same;
+      once = subst Distinct same (distinct_rows r g.loads);
       rest = refl;
       sized = g.sized;
-      lengths = subst MemoLengths (sym g.memo) emptied-lengths;
-      correct = subst (CorrectMemo r) (sym g.memo) (emptied-correct r 0 0);
+      lengths = subst MemoLengths (sym g.memo) emptied_lengths;
+      correct = subst (CorrectMemo r) (sym g.memo) (emptied_correct r 0 0);
     }
 
-pub demand-3 : Demand3
-demand-3 text e calls = list-holds (load text).rules calls (firstBook text) (load text).rules (start text e)
+pub demand_3 : Demand3
+demand_3 text e calls = list_holds (load text).rules calls (first_book text) (load text).rules (start text e)

@@ -6,19 +6,19 @@ use mathlib.Core.Bool.{Bool, true, false}
 use mathlib.Core.List.{List, []}
 use native.Mathlib.Omega.{arith}
 use lib.ListN.{get_or}
-use Rattle.common.specs.Limits.{mostRelated, mostPairs}
+use Rattle.common.specs.Limits.{most_related, most_pairs}
 use Rattle.common.specs.Lists.{at}
-use Rattle.closure.specs.Closure.{On, Listed, pairsOf, Closes, reaches}
-use Rattle.closure.specs.ClosureFact.{closed-reaches}
-use Rattle.tables.specs.Loads.{pairsLoad}
-use Rattle.tables.specs.LoadsLaws.{pairs-named, pairs-relation}
+use Rattle.closure.specs.Closure.{On, Listed, pairs_of, Closes, reaches}
+use Rattle.closure.specs.ClosureFact.{closed_reaches}
+use Rattle.tables.specs.Loads.{pairs_load}
+use Rattle.tables.specs.LoadsLaws.{pairs_named, pairs_relation}
 use Rattle.justification.specs.MarkedSets.{Marks}
 
-pub leading : (things n : ℕ) (a b : List ℕ) (m c : List (List Bool)) (sets : List ℕ) → pairsLoad things n a b ≡ true → things ≤ mostRelated
-    → ((i j : ℕ) → i < mostRelated → j < mostRelated → (On m i j ↔ Listed (pairsOf (min n mostPairs) a b) i j))
-    → Closes (min things mostRelated) (On m) (On c)
+pub leading : (things n : ℕ) (a b : List ℕ) (m c : List (List Bool)) (sets : List ℕ) → pairs_load things n a b ≡ true → things ≤ most_related
+    → ((i j : ℕ) → i < most_related → j < most_related → (On m i j ↔ Listed (pairs_of (min n most_pairs) a b) i j))
+    → Closes (min things most_related) (On m) (On c)
     → ((j : ℕ) → j < things → Marks things (λ i. get_or (get_or c i []) j false) (at sets j))
-    → (j : ℕ) → j < things → Marks things (λ i. reaches (pairsOf n a b) i j) (at sets j)
+    → (j : ℕ) → j < things → Marks things (λ i. reaches (pairs_of n a b) i j) (at sets j)
 leading things n a b m c sets loads few rel closes marks j lj =
     record {
       only = λ p i.
@@ -27,14 +27,14 @@ leading things n a b m c sets loads few rel closes marks j lj =
       all = λ p lp e. (marks j lj).all p lp ((law p j lp lj).1 e);
     }
   where
-    size : min things mostRelated ≡ things
+    size : min things most_related ≡ things
     size = omega arith
 
-    named : (i k : ℕ) → Listed (pairsOf n a b) i k → (i < things) × (k < things)
-    named = pairs-named things n a b loads
+    named : (i k : ℕ) → Listed (pairs_of n a b) i k → (i < things) × (k < things)
+    named = pairs_named things n a b loads
 
     closed : Closes things (On m) (On c)
     closed = subst (λ (k : ℕ). Closes k (On m) (On c)) size closes
 
-    law : (i k : ℕ) → i < things → k < things → (On c i k ↔ (reaches (pairsOf n a b) i k ≡ true))
-    law = closed-reaches (pairsOf n a b) {R = On m} named (pairs-relation things n a b loads m few rel) closed
+    law : (i k : ℕ) → i < things → k < things → (On c i k ↔ (reaches (pairs_of n a b) i k ≡ true))
+    law = closed_reaches (pairs_of n a b) {R = On m} named (pairs_relation things n a b loads m few rel) closed

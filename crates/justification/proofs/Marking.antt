@@ -11,7 +11,7 @@ use lib.ListN.{length, set}
 use lib.Seq.{get_or-set_same, get_or-set_other}
 use Rattle.common.specs.Lists.{at}
 use Rattle.common.specs.Sets.{In}
-use Rattle.common.specs.SetLaws.{none-in-zero, in-or-l, in-or-r, or-in, in-pow, pow-in}
+use Rattle.common.specs.SetLaws.{none_in_zero, in_or_l, in_or_r, or_in, in_pow, pow_in}
 use Rattle.search.specs.Steps.{Decides}
 use Rattle.justification.specs.MarkedSets.{Marks, Those}
 
@@ -21,46 +21,46 @@ last p i l = eq-or-lt_of_le {n = p} {m = i} (omega arith)
 
 -- ---- the numbers of which something holds
 
-pub those-none : (P : ℕ → Type 0) → Those 0 P 0
-those-none P = record { only = λ p h. absurd (none-in-zero p h); all = λ p l e. absurd (omega arith) }
+pub those_none : (P : ℕ → Type 0) → Those 0 P 0
+those_none P = record { only = λ p h. absurd (none_in_zero p h); all = λ p l e. absurd (omega arith) }
 
-pub those-more : {i s s' : ℕ} {P : ℕ → Type 0} → Those i P s → (b : Bool) → Decides b (P i) → s' ≡ cond b (bit_or s (2 ^ i)) s
+pub those_more : {i s s' : ℕ} {P : ℕ → Type 0} → Those i P s → (b : Bool) → Decides b (P i) → s' ≡ cond b (bit_or s (2 ^ i)) s
     → Those (i + 1) P s'
-those-more {i} {s} {s'} {P} h true d e =
+those_more {i} {s} {s'} {P} h true d e =
     record {
       only = λ p m. ⊎_elim
           (λ x. let (l, q) = h.only p x in (omega arith, q))
-          (λ x. let q = pow-in i x in (omega arith, subst P (sym q) (d.yes refl)))
-          (or-in s (2 ^ i) (subst (In p) e m));
+          (λ x. let q = pow_in i x in (omega arith, subst P (sym q) (d.yes refl)))
+          (or_in s (2 ^ i) (subst (In p) e m));
       all =
           λ p l q. subst (In p) (sym e)
-          (⊎_elim (λ x. in-or-r s (subst (λ (n : ℕ). In n (2 ^ i)) (sym x) (in-pow i))) (λ x. in-or-l (2 ^ i) (h.all p x q)) (last p i l));
+          (⊎_elim (λ x. in_or_r s (subst (λ (n : ℕ). In n (2 ^ i)) (sym x) (in_pow i))) (λ x. in_or_l (2 ^ i) (h.all p x q)) (last p i l));
     }
-those-more {i} {s} {s'} {P} h false d e =
+those_more {i} {s} {s'} {P} h false d e =
     record {
       only = λ p m. let (l, q) = h.only p (subst (In p) e m) in (omega arith, q);
       all = λ p l q. subst (In p) (sym e) (⊎_elim (λ x. absurd (d.no refl (subst P x q))) (λ x. h.all p x q) (last p i l));
     }
 
-pub those-skip : {i s : ℕ} {P : ℕ → Type 0} → Those i P s → (P i → ⊥) → Those (i + 1) P s
-those-skip h n = those-more h false (record { yes = λ e. absurd (false≢true e); no = λ e. n }) refl
+pub those_skip : {i s : ℕ} {P : ℕ → Type 0} → Those i P s → (P i → ⊥) → Those (i + 1) P s
+those_skip h n = those_more h false (record { yes = λ e. absurd (false≢true e); no = λ e. n }) refl
 
-pub those-end : {i n s : ℕ} {P : ℕ → Type 0} → i ≡ n → Those i P s → Those n P s
-those-end {s = s} {P = P} e h = subst (λ (n : ℕ). Those n P s) e h
+pub those_end : {i n s : ℕ} {P : ℕ → Type 0} → i ≡ n → Those i P s → Those n P s
+those_end {s = s} {P = P} e h = subst (λ (n : ℕ). Those n P s) e h
 
 -- ---- the numbers that pass
 
-pub marks-none : (t : ℕ → Bool) → Marks 0 t 0
-marks-none t = let h = those-none (λ p. t p ≡ true) in record { only = h.only; all = h.all }
+pub marks_none : (t : ℕ → Bool) → Marks 0 t 0
+marks_none t = let h = those_none (λ p. t p ≡ true) in record { only = h.only; all = h.all }
 
-pub marks-more : {i s s' : ℕ} {t : ℕ → Bool} → Marks i t s → (b : Bool) → b ≡ t i → s' ≡ cond b (bit_or s (2 ^ i)) s → Marks (i + 1) t s'
-marks-more {i} {s} {s'} {t} h b e d =
+pub marks_more : {i s s' : ℕ} {t : ℕ → Bool} → Marks i t s → (b : Bool) → b ≡ t i → s' ≡ cond b (bit_or s (2 ^ i)) s → Marks (i + 1) t s'
+marks_more {i} {s} {s'} {t} h b e d =
     let decides : Decides b (t i ≡ true) = record { yes = λ q. sym e ∙ q; no = λ q r. false≢true (sym q ∙ e ∙ r) } in
-    let more : Those (i + 1) (λ p. t p ≡ true) s' = those-more (record { only = h.only; all = h.all }) b decides d in
+    let more : Those (i + 1) (λ p. t p ≡ true) s' = those_more (record { only = h.only; all = h.all }) b decides d in
     record { only = more.only; all = more.all }
 
-pub marks-end : {i n s : ℕ} {t : ℕ → Bool} → i ≡ n → Marks i t s → Marks n t s
-marks-end {s = s} {t = t} e h = subst (λ (n : ℕ). Marks n t s) e h
+pub marks_end : {i n s : ℕ} {t : ℕ → Bool} → i ≡ n → Marks i t s → Marks n t s
+marks_end {s = s} {t = t} e h = subst (λ (n : ℕ). Marks n t s) e h
 
 -- ---- a table filled index by index: what holds of each index below j
 

@@ -2,7 +2,7 @@
 -- A principal is what document 01 also calls a ground. A set of principals is its set number, the sum of 2^p over its members.
 use Rattle.std.specs.Prelude.{ℕ, zero, suc, ◌+◌, ◌^◌, Bool, not, cond, ◌&&◌, List, [], ◌∷◌, ◌++◌, map, eqb, length}
 use Rattle.std.proofs.Math.Option.{Option, none, some}
-use Rattle.common.specs.Limits.{privilegeCount}
+use Rattle.common.specs.Limits.{privilege_count}
 use Rattle.common.specs.Lists.{at, any, every, those, below}
 use Rattle.common.specs.Sets.{member}
 use Rattle.closure.specs.Closure.{reaches}
@@ -18,20 +18,20 @@ abbrev pub inferior : Record → ℕ → ℕ → Bool
 inferior r e d = reaches (rows hierarchy r) e d
 
 -- demarcation d has privilege k: it is, or is above, one that lists k
-unfoldable pub demarcationHas : Record → ℕ → ℕ → Bool
-demarcationHas r d k = any (λ e. inferior r e d && member k (at r.demarcation_privileges e)) (below r.demarcation_count)
+unfoldable pub demarcation_has : Record → ℕ → ℕ → Bool
+demarcation_has r d k = any (λ e. inferior r e d && member k (at r.demarcation_privileges e)) (below r.demarcation_count)
 
 -- the same on columns: the pairs of the hierarchy, the count of demarcations and what each lists
-unfoldable pub hasBelow : List (List ℕ) → ℕ → List ℕ → ℕ → ℕ → Bool
-hasBelow pairs n lists d k = any (λ e. reaches pairs e d && member k (at lists e)) (below n)
+unfoldable pub has_below : List (List ℕ) → ℕ → List ℕ → ℕ → ℕ → Bool
+has_below pairs n lists d k = any (λ e. reaches pairs e d && member k (at lists e)) (below n)
 
 -- principals ps have privilege k: the demarcation of some of them has
 unfoldable pub have : Record → List ℕ → ℕ → Bool
-have r ps k = any (λ p. demarcationHas r (at r.principal_demarcations p) k) ps
+have r ps k = any (λ p. demarcation_has r (at r.principal_demarcations p) k) ps
 
 -- the privileges that method m lists
 abbrev pub listed : Record → ℕ → List ℕ
-listed r m = those (λ k. member k (at r.method_privileges m)) (below privilegeCount)
+listed r m = those (λ k. member k (at r.method_privileges m)) (below privilege_count)
 
 -- principals ps meet the guard of method m: one-of (form 0) needs at least one listed privilege, all-of every one
 unfoldable pub meets : Record → ℕ → List ℕ → Bool
@@ -50,15 +50,15 @@ consistent r c =
 -- ---- role principals: "role principals (formula of op 3)" (2026-06)
 
 -- principal p is one, by the columns of the formulas' ops and the principals' formulas: its own formula is of op 3
-abbrev pub isRolePrincipalIn : List ℕ → List ℕ → ℕ → Bool
-isRolePrincipalIn ops formulas p = eqb (at ops (at formulas p)) 3
+abbrev pub is_role_principal_in : List ℕ → List ℕ → ℕ → Bool
+is_role_principal_in ops formulas p = eqb (at ops (at formulas p)) 3
 
-abbrev pub isRolePrincipal : Record → ℕ → Bool
-isRolePrincipal r p = isRolePrincipalIn r.formula_ops r.principal_formulas p
+abbrev pub is_role_principal : Record → ℕ → Bool
+is_role_principal r p = is_role_principal_in r.formula_ops r.principal_formulas p
 
 -- how many members of the set c are role principals
-abbrev pub roleCount : Record → ℕ → ℕ
-roleCount r c = length (those (isRolePrincipal r) (members r c))
+abbrev pub role_count : Record → ℕ → ℕ
+role_count r c = length (those (is_role_principal r) (members r c))
 
 -- ---- all sets, least first: fewest members, then fewest role principals, then smallest set number. `count` says how many members of a
 -- set are role principals
@@ -71,17 +71,17 @@ sets (suc n) zero = 0 ∷ []
 sets (suc n) (suc k) = sets n (suc k) ++ map (λ c. c + 2 ^ n) (sets n k)
 
 -- the sets of a list that have fewer than j role principals: those with none, then those with one, and so on
-abbrev pub byRoleCount : (ℕ → ℕ) → List ℕ → ℕ → List ℕ
-byRoleCount count l zero = []
-byRoleCount count l (suc j) = byRoleCount count l j ++ those (λ c. eqb (count c) j) l
+abbrev pub by_role_count : (ℕ → ℕ) → List ℕ → ℕ → List ℕ
+by_role_count count l zero = []
+by_role_count count l (suc j) = by_role_count count l j ++ those (λ c. eqb (count c) j) l
 
 -- all sets of fewer than k principals below n, by size
 abbrev pub by_size : (ℕ → ℕ) → ℕ → ℕ → List ℕ
 by_size count n zero = []
-by_size count n (suc k) = by_size count n k ++ byRoleCount count (sets n k) (suc k)
+by_size count n (suc k) = by_size count n k ++ by_role_count count (sets n k) (suc k)
 
-unfoldable pub allSets : (ℕ → ℕ) → ℕ → List ℕ
-allSets count n = by_size count n (suc n)
+unfoldable pub all_sets : (ℕ → ℕ) → ℕ → List ℕ
+all_sets count n = by_size count n (suc n)
 
 -- the first element that passes
 abbrev pub first_of : (ℕ → Bool) → List ℕ → Option ℕ
@@ -90,7 +90,7 @@ first_of p (x ∷ l) = cond (p x) (some x) (first_of p l)
 
 -- the consistent sets that meet the guard of m, from all principals, least first
 unfoldable pub candidates : Record → ℕ → List ℕ
-candidates r m = those (λ c. consistent r c && meets r m (members r c)) (allSets (roleCount r) r.principal_count)
+candidates r m = those (λ c. consistent r c && meets r m (members r c)) (all_sets (role_count r) r.principal_count)
 
 -- the least of them whose members all pass
 unfoldable pub least : Record → ℕ → (ℕ → Bool) → Option ℕ

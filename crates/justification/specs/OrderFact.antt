@@ -1,4 +1,4 @@
--- The order fact: of the sets that pass, `first_of` over `allSets` finds the one with fewest members; of those, with fewest role principals;
+-- The order fact: of the sets that pass, `first_of` over `all_sets` finds the one with fewest members; of those, with fewest role principals;
 -- and of those, with the smallest number.
 use Rattle.std.specs.Prelude.{ℕ, zero, suc, ◌+◌, ◌-◌, ◌*◌, ◌/◌, ◌%◌, ◌^◌, ◌≤◌, ◌<◌, ◌≡◌, refl, ◌⊎◌, Bool, true, false, cond, ◌&&◌, List, [], ◌∷◌, ◌++◌, map, eqb}
 use Rattle.std.proofs.Common.{sym, ◌∙◌, ap, subst, inl, inr, ⊎_elim, arith, add_comm, eqb-true, eq-eqb, pow_pos}
@@ -8,14 +8,14 @@ use Rattle.std.proofs.Math.Decide.{dec_lt}
 use Rattle.std.specs.Int.Count.{ones}
 use Rattle.std.proofs.lemmas.Nat.{ones-le}
 use Rattle.common.specs.BoolLaws.{and_cases, and_both}
-use Rattle.common.specs.CountLaws.{ones-zero, no_ones, ones-top, power-double}
+use Rattle.common.specs.CountLaws.{ones_zero, no_ones, ones_top, power_double}
 use Rattle.common.specs.Lists.{every, those}
 use Rattle.policy.specs.declared.Record.{Record}
 use Rattle.search.specs.Search.{Before}
-use Rattle.search.specs.Search.Before.{by_members, by-role-count, by_number}
-use Rattle.search.specs.SearchLaws.{before-antisym}
-use Rattle.justification.specs.Justification.{members, meets, consistent, roleCount, sets, byRoleCount, by_size, allSets, first_of, candidates, least}
-use Rattle.justification.specs.RoleCountLaws.{role-few}
+use Rattle.search.specs.Search.Before.{by_members, by_role_count_lem, by_number}
+use Rattle.search.specs.SearchLaws.{before_antisym}
+use Rattle.justification.specs.Justification.{members, meets, consistent, role_count, sets, by_role_count, by_size, all_sets, first_of, candidates, least}
+use Rattle.justification.specs.RoleCountLaws.{role_few}
 use Rattle.justification.specs.Order.{IsLeast}
 
 -- ---- `first_of` of a list in two parts, of a mapped list, of a list that was sifted
@@ -27,27 +27,27 @@ abbrev mapped : (ℕ → ℕ) → Option ℕ → Option ℕ
 mapped f none = none
 mapped f (some c) = some (f c)
 
-first-append : (p : ℕ → Bool) (l m : List ℕ) → first_of p (l ++ m) ≡ or_else (first_of p l) (first_of p m)
-first-append p [] m = refl
-first-append p (x ∷ l) m = go (p x) (first-append p l m)
+first_append : (p : ℕ → Bool) (l m : List ℕ) → first_of p (l ++ m) ≡ or_else (first_of p l) (first_of p m)
+first_append p [] m = refl
+first_append p (x ∷ l) m = go (p x) (first_append p l m)
   where
     go : (b : Bool) → first_of p (l ++ m) ≡ or_else (first_of p l) (first_of p m)
         → cond b (some x) (first_of p (l ++ m)) ≡ or_else (cond b (some x) (first_of p l)) (first_of p m)
     go true e = refl
     go false e = e
 
-first-map : (p : ℕ → Bool) (f : ℕ → ℕ) (l : List ℕ) → first_of p (map f l) ≡ mapped f (first_of (λ x. p (f x)) l)
-first-map p f [] = refl
-first-map p f (x ∷ l) = go (p (f x)) (first-map p f l)
+first_map : (p : ℕ → Bool) (f : ℕ → ℕ) (l : List ℕ) → first_of p (map f l) ≡ mapped f (first_of (λ x. p (f x)) l)
+first_map p f [] = refl
+first_map p f (x ∷ l) = go (p (f x)) (first_map p f l)
   where
     go : (b : Bool) → first_of p (map f l) ≡ mapped f (first_of (λ y. p (f y)) l)
         → cond b (some (f x)) (first_of p (map f l)) ≡ mapped f (cond b (some x) (first_of (λ y. p (f y)) l))
     go true e = refl
     go false e = e
 
-pub first-those : (q p : ℕ → Bool) (l : List ℕ) → first_of q (those p l) ≡ first_of (λ x. p x && q x) l
-first-those q p [] = refl
-first-those q p (x ∷ l) = go (p x) (first-those q p l)
+pub first_those : (q p : ℕ → Bool) (l : List ℕ) → first_of q (those p l) ≡ first_of (λ x. p x && q x) l
+first_those q p [] = refl
+first_those q p (x ∷ l) = go (p x) (first_those q p l)
   where
     go : (b : Bool) → first_of q (those p l) ≡ first_of (λ y. p y && q y) l
         → first_of q (cond b (x ∷ those p l) (those p l)) ≡ cond (b && q x) (some x) (first_of (λ y. p y && q y) l)
@@ -57,11 +57,11 @@ first-those q p (x ∷ l) = go (p x) (first-those q p l)
 -- ---- counting members
 
 ones_above : (m x : ℕ) → x < 2 ^ m → ones (x + 2 ^ m) ≡ 1 + ones x
-ones_above m x l = ap ones (add_comm x (2 ^ m)) ∙ ones-top m x l
+ones_above m x l = ap ones (add_comm x (2 ^ m)) ∙ ones_top m x l
 
 -- y is below m, or holds m
 split : (m y : ℕ) → y < 2 ^ suc m → (y < 2 ^ m) ⊎ ((x : ℕ) × (y ≡ x + 2 ^ m) × (x < 2 ^ m))
-split m y l = elim (dec_lt y (2 ^ m)) [ yes h ↦ inl h | no f ↦ inr (y - 2 ^ m, omega arith, omega (arith, power-double m)) ]
+split m y l = elim (dec_lt y (2 ^ m)) [ yes h ↦ inl h | no f ↦ inr (y - 2 ^ m, omega arith, omega (arith, power_double m)) ]
 
 -- ---- the sets of one size
 abbrev LeastOf : ℕ → ℕ → (ℕ → Bool) → Option ℕ → Type 0
@@ -69,17 +69,17 @@ LeastOf n k p none = (y : ℕ) → y < 2 ^ n → ones y ≡ k → p y ≡ true �
 LeastOf n k p (some c) = (c < 2 ^ n) × (ones c ≡ k) × (p c ≡ true) × ((y : ℕ) → y < 2 ^ n → ones y ≡ k → p y ≡ true → c ≤ y)
 
 alone : (n : ℕ) (p : ℕ → Bool) (b : Bool) → p 0 ≡ b → LeastOf n 0 p (cond b (some 0) none)
-alone n p true e = (pow_pos n, ones-zero, e, λ y l o t. omega arith)
+alone n p true e = (pow_pos n, ones_zero, e, λ y l o t. omega arith)
 alone n p false e = λ y l o t. false≢true (sym e ∙ subst (λ (z : ℕ). p z ≡ true) (no_ones y o) t)
 
 both : (n k : ℕ) (p : ℕ → Bool) (a b : Option ℕ) → LeastOf n (suc k) p a → LeastOf n k (λ x. p (x + 2 ^ n)) b
     → LeastOf (suc n) (suc k) p (or_else a (mapped (λ x. x + 2 ^ n) b))
 both n k p (some c) b f g =
-    let d = power-double n in
+    let d = power_double n in
     let q = f.0 in
     (omega arith, f.1, f.2, λ y l o t. ⊎_elim (λ h. f.3 y h o t) (λ h. let e = h.1 in omega arith) (split n y l))
 both n k p none (some c) f g =
-    let d = power-double n in
+    let d = power_double n in
     let q = g.0 in
     let o = g.1 in
     let u = ones_above n c q in (
@@ -107,12 +107,12 @@ both n k p none none f g = λ y l s t. ⊎_elim
 
 of_size : (n k : ℕ) (p : ℕ → Bool) → LeastOf n k p (first_of p (sets n k))
 of_size zero zero p = alone 0 p (p 0) refl
-of_size zero (suc k) p = λ y l o t. let e : y ≡ 0 = omega arith in let z = subst (λ (x : ℕ). ones x ≡ suc k) e o in omega (arith, ones-zero)
+of_size zero (suc k) p = λ y l o t. let e : y ≡ 0 = omega arith in let z = subst (λ (x : ℕ). ones x ≡ suc k) e o in omega (arith, ones_zero)
 of_size (suc n) zero p = alone (suc n) p (p 0) refl
 of_size (suc n) (suc k) p =
     subst (LeastOf (suc n) (suc k) p)
-    (sym (first-append p (sets n (suc k)) (map (λ c. c + 2 ^ n) (sets n k))
-    ∙ ap (or_else (first_of p (sets n (suc k)))) (first-map p (λ c. c + 2 ^ n) (sets n k))))
+    (sym (first_append p (sets n (suc k)) (map (λ c. c + 2 ^ n) (sets n k))
+    ∙ ap (or_else (first_of p (sets n (suc k)))) (first_map p (λ c. c + 2 ^ n) (sets n k))))
     (both n k p (first_of p (sets n (suc k))) (first_of (λ x. p (x + 2 ^ n)) (sets n k)) (of_size n (suc k) p)
     (of_size n k (λ x. p (x + 2 ^ n))))
 
@@ -135,9 +135,9 @@ module _ (count : ℕ → ℕ) where
   has_both : (j : ℕ) (p : ℕ → Bool) (y : ℕ) → count y ≡ j → p y ≡ true → having j p y ≡ true
   has_both j p y e t = and_both (eqb (count y) j) (p y) (eq-eqb (count y) j e) t
 
-  next-role-count : (n k j : ℕ) (p : ℕ → Bool) (a b : Option ℕ) → LeastByRoleCount n k j p a → LeastOf n k (having j p) b
+  next_role_count : (n k j : ℕ) (p : ℕ → Bool) (a b : Option ℕ) → LeastByRoleCount n k j p a → LeastOf n k (having j p) b
       → LeastByRoleCount n k (suc j) p (or_else a b)
-  next-role-count n k j p (some c) b f g =
+  next_role_count n k j p (some c) b f g =
       let q = f.2 in (
         f.0,
         f.1,
@@ -145,10 +145,10 @@ module _ (count : ℕ → ℕ) where
         f.3,
         λ y l o u t. ⊎_elim
             (λ h. f.4 y l o h t)
-            (λ h. by-role-count (f.1 ∙ sym o) (omega arith))
+            (λ h. by_role_count_lem (f.1 ∙ sym o) (omega arith))
             (smaller (count y) j u),
       )
-  next-role-count n k j p none (some c) f g =
+  next_role_count n k j p none (some c) f g =
       let (x, t) = and_cases (eqb (count c) j) (p c) g.2 in
       let e = eqb-true (count c) j x in (
         g.0,
@@ -160,18 +160,18 @@ module _ (count : ℕ → ℕ) where
             (λ h. by_number (g.1 ∙ sym o) (e ∙ sym h) (g.3 y l o (has_both j p y h v)))
             (smaller (count y) j u),
       )
-  next-role-count n k j p none none f g = λ y l o u t. ⊎_elim
+  next_role_count n k j p none none f g = λ y l o u t. ⊎_elim
       (λ h. f y l o h t)
       (λ h. g y l o (has_both j p y h t))
       (smaller (count y) j u)
 
-  of-role-count : (n k j : ℕ) (p : ℕ → Bool) → LeastByRoleCount n k j p (first_of p (byRoleCount count (sets n k) j))
-  of-role-count n k zero p = λ y l o u t. omega arith
-  of-role-count n k (suc j) p =
+  of_role_count : (n k j : ℕ) (p : ℕ → Bool) → LeastByRoleCount n k j p (first_of p (by_role_count count (sets n k) j))
+  of_role_count n k zero p = λ y l o u t. omega arith
+  of_role_count n k (suc j) p =
       subst (LeastByRoleCount n k (suc j) p)
-      (sym (first-append p (byRoleCount count (sets n k) j) (those (λ c. eqb (count c) j) (sets n k))
-      ∙ ap (or_else (first_of p (byRoleCount count (sets n k) j))) (first-those p (λ c. eqb (count c) j) (sets n k))))
-      (next-role-count n k j p (first_of p (byRoleCount count (sets n k) j)) (first_of (having j p) (sets n k)) (of-role-count n k j p)
+      (sym (first_append p (by_role_count count (sets n k) j) (those (λ c. eqb (count c) j) (sets n k))
+      ∙ ap (or_else (first_of p (by_role_count count (sets n k) j))) (first_those p (λ c. eqb (count c) j) (sets n k))))
+      (next_role_count n k j p (first_of p (by_role_count count (sets n k) j)) (first_of (having j p) (sets n k)) (of_role_count n k j p)
       (of_size n k (having j p)))
 
   -- ---- the sets of every size below k
@@ -200,46 +200,46 @@ module _ (count : ℕ → ℕ) where
     up_to : (k : ℕ) (p : ℕ → Bool) → LeastUpTo n k p (first_of p (by_size count n k))
     up_to zero p = λ y l o t. omega arith
     up_to (suc k) p =
-        subst (LeastUpTo n (suc k) p) (sym (first-append p (by_size count n k) (byRoleCount count (sets n k) (suc k))))
-        (next k p (first_of p (by_size count n k)) (first_of p (byRoleCount count (sets n k) (suc k))) (up_to k p) (of-role-count n k (suc k) p))
+        subst (LeastUpTo n (suc k) p) (sym (first_append p (by_size count n k) (by_role_count count (sets n k) (suc k))))
+        (next k p (first_of p (by_size count n k)) (first_of p (by_role_count count (sets n k) (suc k))) (up_to k p) (of_role_count n k (suc k) p))
 
     whole : (p : ℕ → Bool) (o : Option ℕ) → LeastUpTo n (suc n) p o → IsLeast count n p o
     whole p none f = λ y l t. let h = ones-le n y l in f y l (omega arith) t
     whole p (some c) f = (f.0, f.2, λ y l t. let h = ones-le n y l in f.3 y l (omega arith) t)
 
     -- THE ORDER FACT
-    pub first-is-least : (p : ℕ → Bool) → IsLeast count n p (first_of p (allSets count n))
-    unfolding allSets
-    first-is-least p = whole p (first_of p (by_size count n (suc n))) (up_to (suc n) p)
+    pub first_is_least : (p : ℕ → Bool) → IsLeast count n p (first_of p (all_sets count n))
+    unfolding all_sets
+    first_is_least p = whole p (first_of p (by_size count n (suc n))) (up_to (suc n) p)
 
   -- ---- there is only one least
 
-  pub only-least : (n : ℕ) (p : ℕ → Bool) (a b : Option ℕ) → IsLeast count n p a → IsLeast count n p b → a ≡ b
-  only-least n p none none f g = refl
-  only-least n p none (some b) f g = absurd (f b g.0 g.1)
-  only-least n p (some a) none f g = absurd (g a f.0 f.1)
-  only-least n p (some a) (some b) f g = ap some (before-antisym (f.2 b g.0 g.1) (g.2 a f.0 f.1))
+  pub only_least : (n : ℕ) (p : ℕ → Bool) (a b : Option ℕ) → IsLeast count n p a → IsLeast count n p b → a ≡ b
+  only_least n p none none f g = refl
+  only_least n p none (some b) f g = absurd (f b g.0 g.1)
+  only_least n p (some a) none f g = absurd (g a f.0 f.1)
+  only_least n p (some a) (some b) f g = ap some (before_antisym (f.2 b g.0 g.1) (g.2 a f.0 f.1))
 
   -- tests that agree on every set of principals below n have the same least
-  pub least-passes : (n : ℕ) (p q : ℕ → Bool) (o : Option ℕ) → ((y : ℕ) → y < 2 ^ n → p y ≡ q y) → IsLeast count n p o
+  pub least_passes : (n : ℕ) (p q : ℕ → Bool) (o : Option ℕ) → ((y : ℕ) → y < 2 ^ n → p y ≡ q y) → IsLeast count n p o
       → IsLeast count n q o
-  least-passes n p q none h f = λ y l t. f y l (h y l ∙ t)
-  least-passes n p q (some c) h f = (f.0, sym (h c f.0) ∙ f.1, λ y l t. f.2 y l (h y l ∙ t))
+  least_passes n p q none h f = λ y l t. f y l (h y l ∙ t)
+  least_passes n p q (some c) h f = (f.0, sym (h c f.0) ∙ f.1, λ y l t. f.2 y l (h y l ∙ t))
 
 -- `least` is the least
-pub least-is : (r : Record) (m : ℕ) (passes : ℕ → Bool)
-    → IsLeast (roleCount r) r.principal_count (λ c. (consistent r c && meets r m (members r c)) && every passes (members r c))
+pub least_is : (r : Record) (m : ℕ) (passes : ℕ → Bool)
+    → IsLeast (role_count r) r.principal_count (λ c. (consistent r c && meets r m (members r c)) && every passes (members r c))
     (least r m passes)
 unfolding least candidates
-least-is r m passes =
+least_is r m passes =
     subst
-    (IsLeast (roleCount r) r.principal_count (λ c. (consistent r c && meets r m (members r c)) && every passes (members r c)))
-    (sym (first-those (λ c. every passes (members r c)) (λ c. consistent r c && meets r m (members r c))
-    (allSets (roleCount r) r.principal_count)))
-    (first-is-least (roleCount r) r.principal_count (role-few r)
+    (IsLeast (role_count r) r.principal_count (λ c. (consistent r c && meets r m (members r c)) && every passes (members r c)))
+    (sym (first_those (λ c. every passes (members r c)) (λ c. consistent r c && meets r m (members r c))
+    (all_sets (role_count r) r.principal_count)))
+    (first_is_least (role_count r) r.principal_count (role_few r)
     (λ c. (consistent r c && meets r m (members r c)) && every passes (members r c)))
 
 -- of two principals, of which 0 is a role principal: none, 1 alone, 0 alone, both
-pub role-last : allSets (λ c. c % 2) 2 ≡ 0 ∷ 2 ∷ 1 ∷ 3 ∷ []
-unfolding allSets
-role-last = refl
+pub role_last : all_sets (λ c. c % 2) 2 ≡ 0 ∷ 2 ∷ 1 ∷ 3 ∷ []
+unfolding all_sets
+role_last = refl

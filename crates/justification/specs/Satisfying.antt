@@ -1,15 +1,15 @@
 -- A set of principals that will do, in quantifiers: what demand 3 says of the book's sets, and document 02 (2026-01) of a ticket's.
 use Rattle.std.specs.Prelude.{ℕ, ◌<◌, ◌≡◌, ◌≢◌, Bool, true, ◌||◌, List, [], ◌∷◌}
-use Rattle.common.specs.Limits.{privilegeCount}
+use Rattle.common.specs.Limits.{privilege_count}
 use Rattle.common.specs.Lists.{at, any, same}
 use Rattle.common.specs.Sets.{In}
-use Rattle.closure.specs.Closure.{pairsOf}
+use Rattle.closure.specs.Closure.{pairs_of}
 use Rattle.policy.specs.declared.Record.{Record}
-use Rattle.justification.specs.Justification.{demarcationHas, needs}
+use Rattle.justification.specs.Justification.{demarcation_has, needs}
 
 -- p and q are a pair of these columns, one way or the other
 abbrev pub AmongPairs : ℕ → List ℕ → List ℕ → ℕ → ℕ → Type 0
-AmongPairs n lows highs p q = (any (same (p ∷ q ∷ [])) (pairsOf n lows highs) || any (same (q ∷ p ∷ [])) (pairsOf n lows highs)) ≡ true
+AmongPairs n lows highs p q = (any (same (p ∷ q ∷ [])) (pairs_of n lows highs) || any (same (q ∷ p ∷ [])) (pairs_of n lows highs)) ≡ true
 
 -- p and q are an excluded pair, one way or the other
 abbrev pub excluded : Record → ℕ → ℕ → Type 0
@@ -24,12 +24,12 @@ pub record IsConsistent (r : Record) (c : ℕ) : Type 0 where
 pub record SomeHas (r : Record) (c k : ℕ) : Type 0 where
   pub giver : ℕ
   pub member : In giver c
-  pub has : demarcationHas r (at r.principal_demarcations giver) k ≡ true
+  pub has : demarcation_has r (at r.principal_demarcations giver) k ≡ true
 
 -- the members meet the guard of method m: "One-of needs at least one listed privilege; all-of needs every one."
 pub record GuardMet (r : Record) (m c : ℕ) : Type 0 where
-  pub one_of : at r.method_forms m ≡ 0 → (k : ℕ) × (k < privilegeCount) × In k (at r.method_privileges m) × SomeHas r c k
-  pub all_of : at r.method_forms m ≢ 0 → (k : ℕ) → k < privilegeCount → In k (at r.method_privileges m) → SomeHas r c k
+  pub one_of : at r.method_forms m ≡ 0 → (k : ℕ) × (k < privilege_count) × In k (at r.method_privileges m) × SomeHas r c k
+  pub all_of : at r.method_forms m ≢ 0 → (k : ℕ) → k < privilege_count → In k (at r.method_privileges m) → SomeHas r c k
 
 -- "every member is a principal and enabled"
 abbrev pub AllEnabled : Record → (ℕ → Bool) → ℕ → Type 0

@@ -2,16 +2,16 @@
 
 ghost use Rattle.std.specs.Prelude.{◌≡◌, true, false, cond, ◌↔◌, ◌⊎◌, [], ℕ, ◌^◌, ◌≤◌, ◌<◌, get_or};
 ghost use Rattle.std.specs.Int.Bits.{bit_or};
-ghost use Rattle.common.specs.Limits.{mostUsers, mostFormulas, mostDemarcations, mostPrincipals, mostExclusions, privilegeCount};
+ghost use Rattle.common.specs.Limits.{most_users, most_formulas, most_demarcations, most_principals, most_exclusions, privilege_count};
 ghost use Rattle.common.specs.Lists.{at};
 ghost use Rattle.common.specs.Sets.{In};
-ghost use Rattle.closure.specs.Closure.{pairsOf, reaches};
-ghost use Rattle.tables.specs.Loads.{pairsLoad};
+ghost use Rattle.closure.specs.Closure.{pairs_of, reaches};
+ghost use Rattle.tables.specs.Loads.{pairs_load};
 ghost use Rattle.policy.specs.declared.Record as records;
-ghost use Rattle.justification.specs.Justification.{hasBelow, isRolePrincipalIn};
+ghost use Rattle.justification.specs.Justification.{has_below, is_role_principal_in};
 ghost use Rattle.justification.specs.Satisfying.{AmongPairs};
-ghost use Rattle.justification.specs.Masked.{Masked, MasksFit, groundsIn, groundsOf};
-ghost use Rattle.justification.specs.Predicates.{isUserIn, refusalOf};
+ghost use Rattle.justification.specs.Masked.{Masked, MasksFit, grounds_in, grounds_of};
+ghost use Rattle.justification.specs.Predicates.{is_user_in, refusal_of};
 ghost use Rattle.justification.specs.MarkedSets.{Marks};
 
 use common::{
@@ -49,14 +49,14 @@ fn index(x: u8) -> usize
 
 // The privileges that a method lists: 64 at most.
 pub fn listed(privileges: u64) -> u64
-    ensures { (result ≡ privileges) × (result < 2 ^ privilegeCount) }
+    ensures { (result ≡ privileges) × (result < 2 ^ privilege_count) }
 {
     privileges
 }
 
 // The set s, with p added where p passes.
 pub fn marked(s: u32, p: usize, passes: bool) -> u32
-    requires { p < mostPrincipals }
+    requires { p < most_principals }
     ensures { result ≡ cond passes (bit_or s (2 ^ p)) s }
 {
     if passes {
@@ -69,7 +69,7 @@ pub fn marked(s: u32, p: usize, passes: bool) -> u32
 
 // The things below n that the relation c leads from to j.
 fn column_set(c: [[bool; MOST_PRINCIPALS]; MOST_PRINCIPALS], n: usize, j: usize) -> u32
-    requires { (n ≤ mostPrincipals) × (j < mostPrincipals) }
+    requires { (n ≤ most_principals) × (j < most_principals) }
     ensures { Marks n (λ i. get_or (get_or c i []) j false) result }
 {
     let mut s: u32 = 0;
@@ -84,7 +84,7 @@ fn column_set(c: [[bool; MOST_PRINCIPALS]; MOST_PRINCIPALS], n: usize, j: usize)
 
 // The same for each j below n.
 fn column_sets(c: [[bool; MOST_PRINCIPALS]; MOST_PRINCIPALS], n: usize) -> [u32; MOST_PRINCIPALS]
-    requires { n ≤ mostPrincipals }
+    requires { n ≤ most_principals }
     ensures { (j : ℕ) → j < n → Marks n (λ i. get_or (get_or c i []) j false) (at result j) }
 {
     let mut sets = [0u32; MOST_PRINCIPALS];
@@ -104,9 +104,9 @@ fn leading_to<'a>(
     firsts: &'a [u8; MOST_PAIRS],
     seconds: &'a [u8; MOST_PAIRS],
 ) -> [u32; MOST_PRINCIPALS]
-    requires { (pairsLoad things count firsts.now seconds.now ≡ true) × (things ≤ mostPrincipals) }
+    requires { (pairs_load things count firsts.now seconds.now ≡ true) × (things ≤ most_principals) }
     ensures { (j : ℕ) → j < things
-        → Marks things (λ i. reaches (pairsOf count firsts.now seconds.now) i j) (at result j) }
+        → Marks things (λ i. reaches (pairs_of count firsts.now seconds.now) i j) (at result j) }
 {
     let relation = closure::related(firsts, seconds, count);
     let closed = closure::closed(relation, things);
@@ -123,10 +123,10 @@ pub fn grants_of<'a>(
     principals: usize,
     held: &'a [u8; MOST_PRINCIPALS],
 ) -> [u64; MOST_PRINCIPALS]
-    requires { (pairsLoad demarcations pairs inferiors.now superiors.now ≡ true) × (demarcations ≤ mostDemarcations)
-        × (principals ≤ mostPrincipals) × ((p : ℕ) → p < principals → at held.now p < demarcations) }
+    requires { (pairs_load demarcations pairs inferiors.now superiors.now ≡ true) × (demarcations ≤ most_demarcations)
+        × (principals ≤ most_principals) × ((p : ℕ) → p < principals → at held.now p < demarcations) }
     ensures { (p k : ℕ) → p < principals → (In k (at result p)
-        ↔ (hasBelow (pairsOf pairs inferiors.now superiors.now) demarcations lists.now
+        ↔ (has_below (pairs_of pairs inferiors.now superiors.now) demarcations lists.now
         (at held.now p) k ≡ true)) }
 {
     let below = leading_to(demarcations, pairs, inferiors, superiors);
@@ -146,8 +146,8 @@ pub fn grants_of<'a>(
 
 // The exclusions m, with the pair of a and b, each for the other.
 fn with_exclusion(m: [u32; MOST_PRINCIPALS], a: usize, b: usize) -> [u32; MOST_PRINCIPALS]
-    requires { (a < mostPrincipals) × (b < mostPrincipals) }
-    ensures { (x y : ℕ) → x < mostPrincipals
+    requires { (a < most_principals) × (b < most_principals) }
+    ensures { (x y : ℕ) → x < most_principals
         → (In y (at result x) ↔ (In y (at m x) ⊎ (((a ≡ x) × (b ≡ y)) ⊎ ((b ≡ x) × (a ≡ y))))) }
 {
     let mut sets = m;
@@ -164,9 +164,9 @@ fn excludes_of<'a>(
     lows: &'a [u8; MOST_EXCLUSIONS],
     highs: &'a [u8; MOST_EXCLUSIONS],
 ) -> [u32; MOST_PRINCIPALS]
-    requires { (count ≤ mostExclusions)
-        × ((i : ℕ) → i < count → (at lows.now i < mostPrincipals) × (at highs.now i < mostPrincipals)) }
-    ensures { (p q : ℕ) → p < mostPrincipals → (In q (at result p) ↔ AmongPairs count lows.now highs.now p q) }
+    requires { (count ≤ most_exclusions)
+        × ((i : ℕ) → i < count → (at lows.now i < most_principals) × (at highs.now i < most_principals)) }
+    ensures { (p q : ℕ) → p < most_principals → (In q (at result p) ↔ AmongPairs count lows.now highs.now p q) }
 {
     let mut sets = [0u32; MOST_PRINCIPALS];
     let mut i: usize = 0;
@@ -186,8 +186,8 @@ fn role_principals<'a>(
     count: usize,
     formulas: &'a [u8; MOST_PRINCIPALS],
 ) -> u32
-    requires { (count ≤ mostPrincipals) × ((p : ℕ) → p < count → at formulas.now p < mostFormulas) }
-    ensures { Marks count (isRolePrincipalIn ops.now formulas.now) result }
+    requires { (count ≤ most_principals) × ((p : ℕ) → p < count → at formulas.now p < most_formulas) }
+    ensures { Marks count (is_role_principal_in ops.now formulas.now) result }
 {
     let mut s: u32 = 0;
     let mut p: usize = 0;
@@ -224,12 +224,12 @@ pub fn masks_of<'a>(
     method: usize,
     allowed: u32,
 ) -> Masks
-    requires { MasksFit (groundsIn ops.now demarcations lists.now ranks inferiors.now superiors.now
+    requires { MasksFit (grounds_in ops.now demarcations lists.now ranks inferiors.now superiors.now
         principals formulas.now held.now exclusions lows.now highs.now links prerequisites.now dependents.now forms.now guards.now) method }
-    ensures { (rules : records.Record) → groundsIn ops.now demarcations lists.now
+    ensures { (rules : records.Record) → grounds_in ops.now demarcations lists.now
         ranks inferiors.now superiors.now principals formulas.now held.now
         exclusions lows.now highs.now links prerequisites.now dependents.now
-        forms.now guards.now ≡ groundsOf rules → Masked rules method allowed result }
+        forms.now guards.now ≡ grounds_of rules → Masked rules method allowed result }
 {
     let excludes = excludes_of(exclusions, lows, highs);
     let needs = leading_to(principals, links, prerequisites, dependents);
@@ -260,8 +260,8 @@ pub fn masks_of<'a>(
 
 // Whether one of so many user lines, whose objects are lent, is that of s.
 fn is_user<'a>(count: usize, objects: &'a [u8; MOST_USERS], s: u8) -> bool
-    requires { count ≤ mostUsers }
-    ensures { result ≡ isUserIn count objects.now s }
+    requires { count ≤ most_users }
+    ensures { result ≡ is_user_in count objects.now s }
 {
     let mut found = false;
     let mut i: usize = 0;
@@ -282,8 +282,8 @@ pub fn question_refusal<'a>(
     user_objects: &'a [u8; MOST_USERS],
     question: Question,
 ) -> u8
-    requires { loads ≡ true → users ≤ mostUsers }
-    ensures { result ≡ refusalOf loads methods objects users user_objects.now question }
+    requires { loads ≡ true → users ≤ most_users }
+    ensures { result ≡ refusal_of loads methods objects users user_objects.now question }
 {
     if !loads {
         return common::NOT_LOADABLE;

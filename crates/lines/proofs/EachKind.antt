@@ -36,8 +36,8 @@ last : (n : ℕ) → 5 < n → n ≤ code method → n ≢ 6 → n ≢ 7 → n �
 last n l h a b c d = omega arith
 
 -- the kind that is none of the others
-pub last-kind : {kind : ℕ} → TableKind kind → NoneOf kind → kind ≡ code method
-last-kind {kind} t m =
+pub last_kind : {kind : ℕ} → TableKind kind → NoneOf kind → kind ≡ code method
+last_kind {kind} t m =
     let e = t.known in
     let h = none_between method (kind_of kind) (let l = t.high in omega arith) in
     last kind (later kind t.low m.0.0.0.0.0.0.0.1 m.0.0.0.0.0.0.1 m.0.0.0.0.0.1 m.0.0.0.0.1)

@@ -11,21 +11,21 @@ use lib.Seq.{get_or-drop}
 use lib.Dec.{ltb, eqb}
 use borrow.Author.Tests.{lt-ltb, le-ltb, eq-eqb, ne_eqb, eqb-true}
 use Rattle.common.specs.Lists.{at, table}
-use Rattle.common.specs.ListLaws.{zeros-at, zero-at}
-use Rattle.common.specs.Refusals.{wrongKind}
-use Rattle.octets.specs.Line.{Framed, refused, octets, kindOctet, total, frame}
-use Rattle.octets.specs.LineLaws.{accepted, refused-is, next-line, octet-at}
-use Rattle.octets.specs.Answers.{octetAt, totalOfSize}
+use Rattle.common.specs.ListLaws.{zeros_at, zero_at}
+use Rattle.common.specs.Refusals.{wrong_kind}
+use Rattle.octets.specs.Line.{Framed, refused, octets, kind_octet, total, frame}
+use Rattle.octets.specs.LineLaws.{accepted, refused_is, next_line_lem, octet_at_lem}
+use Rattle.octets.specs.Answers.{octet_at, total_of_size}
 use Rattle.octets.specs.Number.{number}
 use Rattle.octets.specs.AnswerLaws.{AnswerOctets}
-use Rattle.lines.specs.NextLine.{NextValues, noLine, refusedLine, bodyLine, next_of, otherIs, otherRefusal}
-use Rattle.lines.specs.NextLine.{octetsIn, octetsAt, numberAt}
+use Rattle.lines.specs.NextLine.{NextValues, no_line, refused_line, body_line, next_of, other_is, other_refusal}
+use Rattle.lines.specs.NextLine.{octets_in, octets_at, number_at}
 use Rattle.lines.specs.Judging.{row_at}
-use Rattle.lines.proofs.FoundLine.{Stands, stands, framed-within}
-use Rattle.lines.proofs.FoundLine.Stands.{past, not-framed, of-another-kind, of-another-size, of-the-kind}
+use Rattle.lines.proofs.FoundLine.{Stands, stands, framed_within}
+use Rattle.lines.proofs.FoundLine.Stands.{past, not_framed, of_another_kind, of_another_size, of_the_kind}
 
-none-some : {t : ℕ} → none ≡ some t → ⊥
-none-some e = let z : ◌≡◌ {A = ℕ} 0 1 = cc in omega arith
+none_some : {t : ℕ} → none ≡ some t → ⊥
+none_some e = let z : ◌≡◌ {A = ℕ} 0 1 = cc in omega arith
 
 -- ---- a line of the size
 
@@ -35,7 +35,7 @@ pub record OfSize (text : List ℕ) (offset size sum : ℕ) : Type 0 where
   pub sized : length os ≡ size
   pub summed : sum ≡ total os
 
-pub of_size : (text : List ℕ) (offset size : ℕ) {sum : ℕ} → some sum ≡ totalOfSize size (frame (drop offset text))
+pub of_size : (text : List ℕ) (offset size : ℕ) {sum : ℕ} → some sum ≡ total_of_size size (frame (drop offset text))
     → OfSize text offset size sum
 of_size text offset size {sum} e = go (frame (drop offset text)) refl e
   where
@@ -43,15 +43,15 @@ of_size text offset size {sum} e = go (frame (drop offset text)) refl e
         → some sum ≡ cond x (some (total os)) none
         → OfSize text offset size sum
     pick os f true q e = record { os = os; framed = f; sized = eqb-true _ _ q; summed = cc }
-    pick os f false q e = absurd (none-some (sym e))
+    pick os f false q e = absurd (none_some (sym e))
 
-    go : (f : Framed) → frame (drop offset text) ≡ f → some sum ≡ totalOfSize size f → OfSize text offset size sum
-    go (refused k) f e = absurd (none-some (sym e))
+    go : (f : Framed) → frame (drop offset text) ≡ f → some sum ≡ total_of_size size f → OfSize text offset size sum
+    go (refused k) f e = absurd (none_some (sym e))
     go (octets os) f e = pick os f (eqb (length os) size) refl e
 
 -- the numbers of a line are those of its octets
 row_same : (size : ℕ) (l m : List ℕ) → ((k : ℕ) → at l k ≡ at m k) → row_at size l ≡ row_at size m
-unfolding numberAt
+unfolding number_at
 row_same size l m h =
     λ i. record {
       a = h 2 i;
@@ -63,85 +63,85 @@ row_same size l m h =
 
 module _ {text : List ℕ} {offset size sum : ℕ} (z : OfSize text offset size sum) where
   -- it has at least three octets
-  pub of-size-some : 3 ≤ size
-  of-size-some = let h = (accepted z.framed).long in let s = z.sized in omega arith
+  pub of_size_some : 3 ≤ size
+  of_size_some = let h = (accepted z.framed).long in let s = z.sized in omega arith
 
   -- and the next line starts within the text, or at its end
-  pub of-size-next : offset + 2 * size + 1 ≤ length text
-  of-size-next =
-      let n = (next-line (drop offset text) z.framed).0 in let s = z.sized in omega (arith, length-drop offset text)
+  pub of_size_next : offset + 2 * size + 1 ≤ length text
+  of_size_next =
+      let n = (next_line_lem (drop offset text) z.framed).0 in let s = z.sized in omega (arith, length-drop offset text)
 
   -- its numbers, where the room was empty
-  pub of-size-row : (room : ℕ) {after : List ℕ} → after ≡ z.os ++ drop size (replicate room 0)
-      → row_at size after ≡ row_at size (octetsAt text offset)
-  of-size-row room e =
+  pub of_size_row : (room : ℕ) {after : List ℕ} → after ≡ z.os ++ drop size (replicate room 0)
+      → row_at size after ≡ row_at size (octets_at text offset)
+  of_size_row room e =
       ap (row_at size) e
       ∙ row_same size _ _
-      (zeros-at z.os (drop size (replicate room 0)) (λ j. get_or-drop size (replicate room 0) j 0 ∙ zero-at room (size + j)))
-      ∙ ap (λ (f : Framed). row_at size (octetsIn f)) (sym z.framed)
+      (zeros_at z.os (drop size (replicate room 0)) (λ j. get_or-drop size (replicate room 0) j 0 ∙ zero_at room (size + j)))
+      ∙ ap (λ (f : Framed). row_at size (octets_in f)) (sym z.framed)
 
   module _ (kind : ℕ) where
     here : next_of text offset kind size
-        ≡ cond (eqb (kindOctet z.os) kind)
-        (cond (eqb (length z.os) size) (bodyLine (offset + 2 * length z.os + 1) (total z.os)) (refusedLine wrongKind))
-        noLine
-    here = framed-within text offset kind size z.framed
+        ≡ cond (eqb (kind_octet z.os) kind)
+        (cond (eqb (length z.os) size) (body_line (offset + 2 * length z.os + 1) (total z.os)) (refused_line wrong_kind))
+        no_line
+    here = framed_within text offset kind size z.framed
 
     -- of another kind
-    pub next-other : kindOctet z.os ≢ kind → noLine ≡ next_of text offset kind size
-    next-other ne = sym (here ∙ rw (ne_eqb (kindOctet z.os) kind ne))
+    pub next_other : kind_octet z.os ≢ kind → no_line ≡ next_of text offset kind size
+    next_other ne = sym (here ∙ rw (ne_eqb (kind_octet z.os) kind ne))
 
     -- of the kind
-    pub next-body : kindOctet z.os ≡ kind → bodyLine (offset + 2 * size + 1) sum ≡ next_of text offset kind size
-    next-body e =
-        sym (here ∙ rw (eq-eqb _ _ e, eq-eqb _ _ z.sized) (λ i. bodyLine (offset + 2 * z.sized i + 1) (sym z.summed i)))
+    pub next_body : kind_octet z.os ≡ kind → body_line (offset + 2 * size + 1) sum ≡ next_of text offset kind size
+    next_body e =
+        sym (here ∙ rw (eq-eqb _ _ e, eq-eqb _ _ z.sized) (λ i. body_line (offset + 2 * z.sized i + 1) (sym z.summed i)))
 
 -- ---- no line of the size
 
 -- what is left: refused, or for another reader
-abbrev nextLeft : ℕ → NextValues
-nextLeft n = cond (eqb n 0) noLine (refusedLine n)
+abbrev next_left : ℕ → NextValues
+next_left n = cond (eqb n 0) no_line (refused_line n)
 
 module _ (text : List ℕ) (offset kind : ℕ) where
-  pub other-end : length text ≤ offset → 0 ≡ otherRefusal text offset kind
-  unfolding otherRefusal
-  other-end l = rw (le-ltb offset (length text) l)
+  pub other_end : length text ≤ offset → 0 ≡ other_refusal text offset kind
+  unfolding other_refusal
+  other_end l = rw (le-ltb offset (length text) l)
 
   module _ (l : offset < length text) where
-    other-is : {f : Framed} → frame (drop offset text) ≡ f → otherRefusal text offset kind ≡ otherIs kind f
-    unfolding otherRefusal
-    other-is e = rw (lt-ltb offset (length text) l) (ap (otherIs kind) e)
+    other_is_lem : {f : Framed} → frame (drop offset text) ≡ f → other_refusal text offset kind ≡ other_is kind f
+    unfolding other_refusal
+    other_is_lem e = rw (lt-ltb offset (length text) l) (ap (other_is kind) e)
 
-    pub other-refused : {k : ℕ} → frame (drop offset text) ≡ refused k → k ≡ otherRefusal text offset kind
-    other-refused e = sym (other-is e)
+    pub other_refused : {k : ℕ} → frame (drop offset text) ≡ refused k → k ≡ other_refusal text offset kind
+    other_refused e = sym (other_is_lem e)
 
     module _ {count next sum : ℕ} (t : AnswerOctets offset count next sum (frame (drop offset text))) {o : ℕ}
-        (e : o ≡ octetAt (drop offset text) 1) where
+        (e : o ≡ octet_at (drop offset text) 1) where
       -- the octet that says the kind
-      says : o ≡ kindOctet t.os
-      says = e ∙ octet-at (drop offset text) 1 t.framed (let h = (accepted t.framed).long in omega arith)
+      says : o ≡ kind_octet t.os
+      says = e ∙ octet_at_lem (drop offset text) 1 t.framed (let h = (accepted t.framed).long in omega arith)
 
-      pub other-kind : o ≢ kind → 0 ≡ otherRefusal text offset kind
-      other-kind ne = sym (other-is t.framed ∙ rw (ne_eqb (kindOctet t.os) kind (λ z. ne (says ∙ z))))
+      pub other_kind : o ≢ kind → 0 ≡ other_refusal text offset kind
+      other_kind ne = sym (other_is_lem t.framed ∙ rw (ne_eqb (kind_octet t.os) kind (λ z. ne (says ∙ z))))
 
-      pub own-kind : o ≡ kind → wrongKind ≡ otherRefusal text offset kind
-      own-kind k = sym (other-is t.framed ∙ rw (eq-eqb (kindOctet t.os) kind (sym says ∙ k)))
+      pub own_kind : o ≡ kind → wrong_kind ≡ other_refusal text offset kind
+      own_kind k = sym (other_is_lem t.framed ∙ rw (eq-eqb (kind_octet t.os) kind (sym says ∙ k)))
 
-  next-left : (size : ℕ) → none ≡ totalOfSize size (frame (drop offset text))
-      → next_of text offset kind size ≡ nextLeft (otherRefusal text offset kind)
-  next-left size e = go (stands text offset kind size)
+  next_left_lem : (size : ℕ) → none ≡ total_of_size size (frame (drop offset text))
+      → next_of text offset kind size ≡ next_left (other_refusal text offset kind)
+  next_left_lem size e = go (stands text offset kind size)
     where
-      go : Stands text offset kind size → next_of text offset kind size ≡ nextLeft (otherRefusal text offset kind)
-      go (past l f) = f ∙ ap nextLeft (other-end l)
-      go (not-framed l {k} g f) =
-          f ∙ sym (ap nextLeft (other-is l g) ∙ rw (ne_eqb k 0 (λ z. let b = refused-is (drop offset text) g in omega arith)))
-      go (of-another-kind l {os} g h f) = f ∙ sym (ap nextLeft (other-is l g) ∙ rw (ne_eqb (kindOctet os) kind h))
-      go (of-another-size l {os} g o d f) = f ∙ sym (ap nextLeft (other-is l g) ∙ rw (eq-eqb (kindOctet os) kind o))
-      go (of-the-kind l {os} g o d f) = absurd (none-some {t = total os} (e ∙ ap (totalOfSize size) g ∙ rw (eq-eqb (length os) size d)))
+      go : Stands text offset kind size → next_of text offset kind size ≡ next_left (other_refusal text offset kind)
+      go (past l f) = f ∙ ap next_left (other_end l)
+      go (not_framed l {k} g f) =
+          f ∙ sym (ap next_left (other_is_lem l g) ∙ rw (ne_eqb k 0 (λ z. let b = refused_is (drop offset text) g in omega arith)))
+      go (of_another_kind l {os} g h f) = f ∙ sym (ap next_left (other_is_lem l g) ∙ rw (ne_eqb (kind_octet os) kind h))
+      go (of_another_size l {os} g o d f) = f ∙ sym (ap next_left (other_is_lem l g) ∙ rw (eq-eqb (kind_octet os) kind o))
+      go (of_the_kind l {os} g o d f) = absurd (none_some {t = total os} (e ∙ ap (total_of_size size) g ∙ rw (eq-eqb (length os) size d)))
 
-  module _ (size : ℕ) (e : none ≡ totalOfSize size (frame (drop offset text))) {n : ℕ} (q : n ≡ otherRefusal text offset kind) where
-    pub left-refused : n ≢ 0 → refusedLine n ≡ next_of text offset kind size
-    left-refused ne = sym (next-left size e ∙ ap nextLeft (sym q) ∙ rw (ne_eqb n 0 ne))
+  module _ (size : ℕ) (e : none ≡ total_of_size size (frame (drop offset text))) {n : ℕ} (q : n ≡ other_refusal text offset kind) where
+    pub left_refused : n ≢ 0 → refused_line n ≡ next_of text offset kind size
+    left_refused ne = sym (next_left_lem size e ∙ ap next_left (sym q) ∙ rw (ne_eqb n 0 ne))
 
-    pub left_other : n ≡ 0 → noLine ≡ next_of text offset kind size
-    left_other z = sym (next-left size e ∙ ap nextLeft (sym q ∙ z))
+    pub left_other : n ≡ 0 → no_line ≡ next_of text offset kind size
+    left_other z = sym (next_left_lem size e ∙ ap next_left (sym q ∙ z))

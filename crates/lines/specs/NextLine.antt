@@ -1,8 +1,8 @@
 -- What stands at an offset of a text, for a reader of lines of one kind, and the numbers there.
 use Rattle.std.specs.Prelude.{ℕ, ◌+◌, ◌*◌, Bool, true, false, cond, List, [], length, drop, ltb, eqb}
 use Rattle.common.specs.Lists.{at, table}
-use Rattle.common.specs.Refusals.{wrongKind}
-use Rattle.octets.specs.Line.{Framed, refused, octets, kindOctet, total, frame}
+use Rattle.common.specs.Refusals.{wrong_kind}
+use Rattle.octets.specs.Line.{Framed, refused, octets, kind_octet, total, frame}
 use Rattle.octets.specs.Number.{number}
 use Rattle.lines.specs.declared.Next.{Next}
 use Rattle.lines.specs.declared.Next.TheVariants.{Other, Refused, Body}
@@ -17,50 +17,50 @@ pub record NextValues : Type 0 where
   pub next : ℕ
   pub total : ℕ
 
-abbrev pub noLine : NextValues
-noLine = record { read = false; number = 0; next = 0; total = 0 }
+abbrev pub no_line : NextValues
+no_line = record { read = false; number = 0; next = 0; total = 0 }
 
-abbrev pub refusedLine : ℕ → NextValues
-refusedLine k = record { read = true; number = k; next = 0; total = 0 }
+abbrev pub refused_line : ℕ → NextValues
+refused_line k = record { read = true; number = k; next = 0; total = 0 }
 
-abbrev pub bodyLine : ℕ → ℕ → NextValues
-bodyLine next total = record { read = true; number = 0; next = next; total = total }
+abbrev pub body_line : ℕ → ℕ → NextValues
+body_line next total = record { read = true; number = 0; next = next; total = total }
 
 -- of each case of an answer of `next_line`
-abbrev pub nextValues : Next → NextValues
-nextValues Other = noLine
-nextValues (Refused k) = refusedLine k
-nextValues (Body next total) = bodyLine next total
+abbrev pub next_values : Next → NextValues
+next_values Other = no_line
+next_values (Refused k) = refused_line k
+next_values (Body next total) = body_line next total
 
 -- of a framed line at an offset, whose kind's lines have so many octets
-abbrev pub nextIs : ℕ → ℕ → ℕ → Framed → NextValues
-nextIs offset kind size (refused k) = refusedLine k
-nextIs offset kind size (octets os) =
-    cond (eqb (kindOctet os) kind)
-    (cond (eqb (length os) size) (bodyLine (offset + 2 * length os + 1) (total os)) (refusedLine wrongKind))
-    noLine
+abbrev pub next_is : ℕ → ℕ → ℕ → Framed → NextValues
+next_is offset kind size (refused k) = refused_line k
+next_is offset kind size (octets os) =
+    cond (eqb (kind_octet os) kind)
+    (cond (eqb (length os) size) (body_line (offset + 2 * length os + 1) (total os)) (refused_line wrong_kind))
+    no_line
 
 -- of what stands at an offset of a text
 unfoldable pub next_of : List ℕ → ℕ → ℕ → ℕ → NextValues
-next_of text offset kind size = cond (ltb offset (length text)) (nextIs offset kind size (frame (drop offset text))) noLine
+next_of text offset kind size = cond (ltb offset (length text)) (next_is offset kind size (frame (drop offset text))) no_line
 
 -- what refuses a line that is not of a kind and its size: 1, 2 or 3, or, being of the kind, 4; 0 of one that is left to another reader
-abbrev pub otherIs : ℕ → Framed → ℕ
-otherIs kind (refused k) = k
-otherIs kind (octets os) = cond (eqb (kindOctet os) kind) wrongKind 0
+abbrev pub other_is : ℕ → Framed → ℕ
+other_is kind (refused k) = k
+other_is kind (octets os) = cond (eqb (kind_octet os) kind) wrong_kind 0
 
 -- of what stands at an offset of a text
-unfoldable pub otherRefusal : List ℕ → ℕ → ℕ → ℕ
-otherRefusal text offset kind = cond (ltb offset (length text)) (otherIs kind (frame (drop offset text))) 0
+unfoldable pub other_refusal : List ℕ → ℕ → ℕ → ℕ
+other_refusal text offset kind = cond (ltb offset (length text)) (other_is kind (frame (drop offset text))) 0
 
 -- the octets of a framed line, and of the line at an offset of a text
-abbrev pub octetsIn : Framed → List ℕ
-octetsIn (refused k) = []
-octetsIn (octets os) = os
+abbrev pub octets_in : Framed → List ℕ
+octets_in (refused k) = []
+octets_in (octets os) = os
 
-abbrev pub octetsAt : List ℕ → ℕ → List ℕ
-octetsAt text offset = octetsIn (frame (drop offset text))
+abbrev pub octets_at : List ℕ → ℕ → List ℕ
+octets_at text offset = octets_in (frame (drop offset text))
 
 -- the number that n octets make, from the k-th on
-unfoldable pub numberAt : List ℕ → ℕ → ℕ → ℕ
-numberAt os k n = number (table n (λ i. at os (k + i)))
+unfoldable pub number_at : List ℕ → ℕ → ℕ → ℕ
+number_at os k n = number (table n (λ i. at os (k + i)))

@@ -2,15 +2,15 @@
 
 ghost use Rattle.std.specs.Prelude.{◌≡◌, ◌+◌, ◌*◌, ◌≤◌, ◌<◌, drop};
 ghost use Rattle.common.specs.Lists.{at};
-ghost use Rattle.common.specs.Limits.{lineRoom};
+ghost use Rattle.common.specs.Limits.{line_room};
 ghost use Rattle.octets.specs.Line.{frame};
 ghost use Rattle.octets.specs.Answers.{RoomFor, HoldsLine};
 ghost use Rattle.octets.specs.DigitTable.{IsDigitTable};
 ghost use Rattle.policy.specs.Table.{kind_of};
 ghost use Rattle.policy.specs.Rows.{key};
-ghost use Rattle.lines.specs.NextLine.{nextValues, next_of, otherRefusal, numberAt};
-ghost use Rattle.lines.specs.Judging.{TableKind, row_at, fields_of, heightBy, refusalBy, HeightsLow};
-ghost use Rattle.lines.specs.Judging.{mostLineSum, CursorBound, movedPast, judgedValues, judgedRow, judgedOf};
+ghost use Rattle.lines.specs.NextLine.{next_values, next_of, other_refusal, number_at};
+ghost use Rattle.lines.specs.Judging.{TableKind, row_at, fields_of, height_by, refusal_by, HeightsLow};
+ghost use Rattle.lines.specs.Judging.{most_line_sum, CursorBound, moved_past, judged_values, judged_row, judged_of};
 
 use common::{LINE_ROOM, MOST_FORMULAS};
 use octets::{Line, SizedLine};
@@ -31,7 +31,7 @@ pub enum Next {
 // The number that refuses a line which is not of a kind and size (1, 2, 3, or, being of this kind, 4); 0 for the text's end or a line
 // of another kind.
 fn other_refusal(text: &[u8], offset: usize, kind: u8) -> u8
-    ensures { result ≡ otherRefusal text.now offset kind }
+    ensures { result ≡ other_refusal text.now offset kind }
 {
     if text.len() <= offset {
         return 0;
@@ -61,7 +61,7 @@ pub fn next_line(
     octets: &mut [u8; LINE_ROOM],
 ) -> Next
     requires { IsDigitTable digits.now × RoomFor size octets.old }
-    ensures line { nextValues result ≡ next_of text.now offset kind size }
+    ensures line { next_values result ≡ next_of text.now offset kind size }
     ensures octets { HoldsLine size (frame (drop offset text.now)) octets.old octets.new }
 {
     match octets::sized_line(text, offset, size, digits, octets) {
@@ -86,7 +86,7 @@ pub fn next_line(
 
 // The k-th octet in a room for a line's octets.
 fn octet_in(octets: &[u8; LINE_ROOM], k: usize) -> u8
-    requires { k < lineRoom }
+    requires { k < line_room }
     ensures { result ≡ at octets.now k }
 {
     octets[k]
@@ -94,8 +94,8 @@ fn octet_in(octets: &[u8; LINE_ROOM], k: usize) -> u8
 
 // The number that n octets of a line make, from the k-th on, the high octet first.
 pub fn number_at(octets: &[u8; LINE_ROOM], k: usize, n: usize) -> u64
-    requires { (n ≤ 8) × (k + n ≤ lineRoom) }
-    ensures { result ≡ numberAt octets.now k n }
+    requires { (n ≤ 8) × (k + n ≤ line_room) }
+    ensures { result ≡ number_at octets.now k n }
 {
     let mut value: u64 = 0;
     let mut i = 0;
@@ -129,7 +129,7 @@ fn two_octets(high: u8, low: u8) -> u16
 
 // The numbers of a line of so many octets. A line with a number of eight octets has 11 or more, and it stands last before the check octet.
 fn row_at(octets: &[u8; LINE_ROOM], size: usize) -> Row
-    requires { size ≤ lineRoom }
+    requires { size ≤ line_room }
     ensures { result ≡ row_at size octets.now }
 {
     let mut wide: u64 = 0;
@@ -166,7 +166,7 @@ pub struct Bounds {
 // The height of the formula that a line says, from the heights of those before it; 0 for any other kind.
 fn height_of(kind: u8, row: Row, heights: &[u8; MOST_FORMULAS]) -> u8
     requires { HeightsLow kind heights.now }
-    ensures { result ≡ heightBy kind row (at heights.now) }
+    ensures { result ≡ height_by kind row (at heights.now) }
 {
     if kind == 0x04 {
         return rows::formula_height(row.a, row.b, row.c, *heights);
@@ -177,7 +177,7 @@ fn height_of(kind: u8, row: Row, heights: &[u8; MOST_FORMULAS]) -> u8
 // What refuses a line of a kind (5, 6, 7; 0 for nothing).
 fn row_refusal(kind: u8, bounds: Bounds, height: u8, row: Row) -> u8
     requires { TableKind kind }
-    ensures { result ≡ refusalBy (kind_of kind) bounds height row }
+    ensures { result ≡ refusal_by (kind_of kind) bounds height row }
 {
     let n = bounds.row;
     let least_key = bounds.least_key;
@@ -226,8 +226,8 @@ pub struct Cursor {
 
 // The cursor past a line of a kind.
 pub fn past(cursor: Cursor, kind: u8, next: usize, total: usize) -> Cursor
-    requires { CursorBound cursor × (total ≤ mostLineSum) }
-    ensures { result ≡ movedPast cursor kind next total }
+    requires { CursorBound cursor × (total ≤ most_line_sum) }
+    ensures { result ≡ moved_past cursor kind next total }
 {
     Cursor {
         number: 0,
@@ -263,8 +263,8 @@ fn judged_octets(
     octets: &[u8; LINE_ROOM],
     further: Cursor,
 ) -> Judged
-    requires { TableKind kind × HeightsLow kind heights.now × (size ≤ lineRoom) }
-    ensures { judgedValues result ≡ judgedRow kind bounds (at heights.now) further (row_at size octets.now) }
+    requires { TableKind kind × HeightsLow kind heights.now × (size ≤ line_room) }
+    ensures { judged_values result ≡ judged_row kind bounds (at heights.now) further (row_at size octets.now) }
 {
     let row = row_at(octets, size);
     let height = height_of(kind, row, heights);
@@ -291,8 +291,8 @@ pub fn judged_line(
     heights: &[u8; MOST_FORMULAS],
     digits: &[u8; 256],
 ) -> Judged
-    requires { TableKind kind × CursorBound cursor × HeightsLow kind heights.now × (size ≤ lineRoom) × IsDigitTable digits.now }
-    ensures { judgedValues result ≡ judgedOf text.now cursor kind size bounds (at heights.now) }
+    requires { TableKind kind × CursorBound cursor × HeightsLow kind heights.now × (size ≤ line_room) × IsDigitTable digits.now }
+    ensures { judged_values result ≡ judged_of text.now cursor kind size bounds (at heights.now) }
 {
     let offset = cursor.offset;
     let mut octets = [0u8; LINE_ROOM];

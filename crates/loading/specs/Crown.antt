@@ -1,7 +1,7 @@
 -- The crown bundle of document 01, line by line, and the record that it says.
 use Rattle.std.specs.Prelude.{ℕ, ◌-◌, ◌≡◌, refl, List, [], ◌∷◌, replicate}
-use Rattle.common.specs.Limits.{mostUsers, mostEdges, mostFormulas, mostDemarcations, mostPairs, mostPrincipals, mostExclusions}
-use Rattle.common.specs.Limits.{mostMethods}
+use Rattle.common.specs.Limits.{most_users, most_edges, most_formulas, most_demarcations, most_pairs, most_principals, most_exclusions}
+use Rattle.common.specs.Limits.{most_methods}
 use Rattle.octets.specs.Line.{text_of}
 use Rattle.edge_index.specs.declared.EdgeIndex.{EdgeIndex}
 use Rattle.policy.specs.declared.Record.{Record}
@@ -10,8 +10,8 @@ use Rattle.loading.specs.Examples.{computing}
 use Rattle.reading.specs.Loading.{load}
 
 -- objects 0 crown, 1 Ana (role 0), 2 Ben (no role)
-abbrev pub crownLines : List (List ℕ)
-crownLines =
+abbrev pub crown_lines : List (List ℕ)
+crown_lines =
     (0x02 ∷ 0x01 ∷ 0x01 ∷ 0x03 ∷ 0xF9 ∷ []) ∷
     (0x03 ∷ 0x02 ∷ 0x01 ∷ 0x00 ∷ 0x01 ∷ 0xF9 ∷ []) ∷
     (0x03 ∷ 0x02 ∷ 0x02 ∷ 0x00 ∷ 0x00 ∷ 0xF9 ∷ []) ∷
@@ -39,50 +39,50 @@ crownLines =
     []
 
 abbrev pub crown : List ℕ
-crown = text_of crownLines
+crown = text_of crown_lines
 
 -- one edge with label 0, two with label 1; they rise by label, to, from as they do by label, from, to
-abbrev crownIndex : EdgeIndex
-crownIndex = record { firsts = 0 ∷ 1 ∷ replicate 14 3; counts = 1 ∷ 2 ∷ replicate 14 0; places = 0 ∷ 1 ∷ 2 ∷ replicate (mostEdges - 3) 0 }
+abbrev crown_index : EdgeIndex
+crown_index = record { firsts = 0 ∷ 1 ∷ replicate 14 3; counts = 1 ∷ 2 ∷ replicate 14 0; places = 0 ∷ 1 ∷ 2 ∷ replicate (most_edges - 3) 0 }
 
 -- document 01, "The crown table"
-abbrev pub crownRecord : Record
-crownRecord =
+abbrev pub crown_record : Record
+crown_record =
     record {
       objects = 3;
       user_count = 2;
-      user_objects = 1 ∷ 2 ∷ replicate (mostUsers - 2) 0;
-      user_roles = 1 ∷ 0 ∷ replicate (mostUsers - 2) 0;
+      user_objects = 1 ∷ 2 ∷ replicate (most_users - 2) 0;
+      user_roles = 1 ∷ 0 ∷ replicate (most_users - 2) 0;
       edge_count = 3;
-      edge_labels = 0 ∷ 1 ∷ 1 ∷ replicate (mostEdges - 3) 0;
-      edge_sources = 0 ∷ 0 ∷ 0 ∷ replicate (mostEdges - 3) 0;
-      edge_targets = 1 ∷ 1 ∷ 2 ∷ replicate (mostEdges - 3) 0;
+      edge_labels = 0 ∷ 1 ∷ 1 ∷ replicate (most_edges - 3) 0;
+      edge_sources = 0 ∷ 0 ∷ 0 ∷ replicate (most_edges - 3) 0;
+      edge_targets = 1 ∷ 1 ∷ 2 ∷ replicate (most_edges - 3) 0;
       formula_count = 4;
-      formula_ops = 1 ∷ 7 ∷ 7 ∷ 3 ∷ replicate (mostFormulas - 4) 0;
-      formula_lefts = 0 ∷ 0 ∷ 1 ∷ 0 ∷ replicate (mostFormulas - 4) 0;
-      formula_rights = 0 ∷ 0 ∷ 0 ∷ 0 ∷ replicate (mostFormulas - 4) 0;
+      formula_ops = 1 ∷ 7 ∷ 7 ∷ 3 ∷ replicate (most_formulas - 4) 0;
+      formula_lefts = 0 ∷ 0 ∷ 1 ∷ 0 ∷ replicate (most_formulas - 4) 0;
+      formula_rights = 0 ∷ 0 ∷ 0 ∷ 0 ∷ replicate (most_formulas - 4) 0;
       demarcation_count = 3;
-      demarcation_privileges = 1 ∷ 2 ∷ 4 ∷ replicate (mostDemarcations - 3) 0;
+      demarcation_privileges = 1 ∷ 2 ∷ 4 ∷ replicate (most_demarcations - 3) 0;
       hierarchy_count = 1;
-      inferiors = 0 ∷ replicate (mostPairs - 1) 0;
-      superiors = 1 ∷ replicate (mostPairs - 1) 0;
+      inferiors = 0 ∷ replicate (most_pairs - 1) 0;
+      superiors = 1 ∷ replicate (most_pairs - 1) 0;
       principal_count = 3;
-      principal_formulas = 1 ∷ 2 ∷ 3 ∷ replicate (mostPrincipals - 3) 0;
-      principal_demarcations = 2 ∷ 1 ∷ 0 ∷ replicate (mostPrincipals - 3) 0;
+      principal_formulas = 1 ∷ 2 ∷ 3 ∷ replicate (most_principals - 3) 0;
+      principal_demarcations = 2 ∷ 1 ∷ 0 ∷ replicate (most_principals - 3) 0;
       exclusion_count = 1;
-      exclusion_lows = 0 ∷ replicate (mostExclusions - 1) 0;
-      exclusion_highs = 1 ∷ replicate (mostExclusions - 1) 0;
+      exclusion_lows = 0 ∷ replicate (most_exclusions - 1) 0;
+      exclusion_highs = 1 ∷ replicate (most_exclusions - 1) 0;
       prerequisite_count = 1;
-      prerequisites = 2 ∷ replicate (mostPairs - 1) 0;
-      dependents = 1 ∷ replicate (mostPairs - 1) 0;
+      prerequisites = 2 ∷ replicate (most_pairs - 1) 0;
+      dependents = 1 ∷ replicate (most_pairs - 1) 0;
       method_count = 4;
-      method_forms = 1 ∷ 0 ∷ 1 ∷ 1 ∷ replicate (mostMethods - 4) 0;
-      method_privileges = 3 ∷ 4 ∷ 0 ∷ 7 ∷ replicate (mostMethods - 4) 0;
-      index = crownIndex;
+      method_forms = 1 ∷ 0 ∷ 1 ∷ 1 ∷ replicate (most_methods - 4) 0;
+      method_privileges = 3 ∷ 4 ∷ 0 ∷ 7 ∷ replicate (most_methods - 4) 0;
+      index = crown_index;
       memo = emptied 0 0;
     }
 
 -- the crown bundle loads to that record
-pub crown-loads : load crown ≡ record { number = 0; line = 0; rules = crownRecord }
+pub crown_loads : load crown ≡ record { number = 0; line = 0; rules = crown_record }
 unfolding computing
-crown-loads = refl
+crown_loads = refl

@@ -1,11 +1,11 @@
 // Loading a bundle: the lines of every kind, one kind after another, and the end line.
 
 ghost use Rattle.std.specs.Prelude.{◌≡◌, ◌+◌, ◌≤◌};
-ghost use Rattle.common.specs.Limits.{mostLines};
+ghost use Rattle.common.specs.Limits.{most_lines};
 ghost use Rattle.policy.specs.Table.{end, indexed};
-ghost use Rattle.reading.specs.Loading.{notLoaded};
+ghost use Rattle.reading.specs.Loading.{not_loaded};
 ghost use Rattle.reading.specs.Loading as loading;
-ghost use Rattle.reading.specs.Stages.{loadedFrom, endedAt, CirclesReady, Ready};
+ghost use Rattle.reading.specs.Stages.{loaded_from, ended_at, CirclesReady, Ready};
 
 use common::LINE_ROOM;
 use lines::{Next, next_line, number_at};
@@ -15,7 +15,7 @@ use reading::{Loaded, Stage, read_kind};
 
 // Refused: the number, the line, and the blank record.
 fn not_loaded(number: u8, line: usize) -> Loaded
-    ensures { result ≡ notLoaded number line }
+    ensures { result ≡ not_loaded number line }
 {
     let rules = policy::blank();
     Loaded {
@@ -43,8 +43,8 @@ fn with_index(mut rules: Record) -> Record
 // After the end line: nothing more may stand in the text, and neither the hierarchy nor the prerequisites may hold a circle.
 // Then the index is built.
 fn ended(text: &[u8], offset: usize, lines: usize, rules: Record) -> Loaded
-    requires { (lines ≤ mostLines + 1) × CirclesReady rules }
-    ensures { result ≡ endedAt text.now offset lines rules }
+    requires { (lines ≤ most_lines + 1) × CirclesReady rules }
+    ensures { result ≡ ended_at text.now offset lines rules }
 {
     if offset < text.len() {
         match octets::read_line(text, offset) {
@@ -73,7 +73,7 @@ fn ended(text: &[u8], offset: usize, lines: usize, rules: Record) -> Loaded
 // The end line, where there is one.
 fn finish(text: &[u8], from: Stage) -> Loaded
     requires { from.cursor.number ≡ 0 → Ready text.now end from }
-    ensures { result ≡ loadedFrom text.now from }
+    ensures { result ≡ loaded_from text.now from }
 {
     let cursor = from.cursor;
     let rules = from.rules;

@@ -13,17 +13,17 @@ abbrev pub All : (ℕ → Type 0) → List ℕ → Type 0
 All P [] = Unit {0}
 All P (x ∷ l) = P x × All P l
 
-pub all-those : (P : ℕ → Type 0) (q : ℕ → Bool) (l : List ℕ) → All P l → All P (those q l)
-all-those P q [] a = tt
-all-those P q (x ∷ l) a = go (q x) (all-those P q l a.1)
+pub all_those : (P : ℕ → Type 0) (q : ℕ → Bool) (l : List ℕ) → All P l → All P (those q l)
+all_those P q [] a = tt
+all_those P q (x ∷ l) a = go (q x) (all_those P q l a.1)
   where
     go : (b : Bool) → All P (those q l) → All P (cond b (x ∷ those q l) (those q l))
     go true h = (a.0, h)
     go false h = h
 
-pub all-of : (P : ℕ → Type 0) (l : List ℕ) → ((x : ℕ) → P x) → All P l
-all-of P [] f = tt
-all-of P (x ∷ l) f = (f x, all-of P l f)
+pub all_of_lem : (P : ℕ → Type 0) (l : List ℕ) → ((x : ℕ) → P x) → All P l
+all_of_lem P [] f = tt
+all_of_lem P (x ∷ l) f = (f x, all_of_lem P l f)
 
 pub all_map : (P Q : ℕ → Type 0) (l : List ℕ) → ((x : ℕ) → P x → Q x) → All P l → All Q l
 all_map P Q [] f a = tt
@@ -33,9 +33,9 @@ pub all_append : (P : ℕ → Type 0) (l m : List ℕ) → All P l → All P m �
 all_append P [] m a b = b
 all_append P (x ∷ l) m a b = (a.0, all_append P l m a.1 b)
 
-pub all-below : (P : ℕ → Type 0) (n : ℕ) → ((i : ℕ) → i < n → P i) → All P (below n)
-all-below P zero h = tt
-all-below P (suc n) h = all_append P (below n) (n ∷ []) (all-below P n (λ i l. h i (omega arith))) (h n (omega arith), tt)
+pub all_below : (P : ℕ → Type 0) (n : ℕ) → ((i : ℕ) → i < n → P i) → All P (below n)
+all_below P zero h = tt
+all_below P (suc n) h = all_append P (below n) (n ∷ []) (all_below P n (λ i l. h i (omega arith))) (h n (omega arith), tt)
 
 all_first : (P : ℕ → Type 0) (l m : List ℕ) → All P (l ++ m) → All P l × All P m
 all_first P [] m a = (tt, a)
@@ -49,13 +49,13 @@ below_all P (suc n) a i l = go (ℕ_discrete i n) (below_all P n (all_first P (b
     go (yes e) h = subst P (sym e) (all_first P (below n) (n ∷ []) a).1.0
     go (no e) h = h (omega arith)
 
-pub every-ext : (p q : ℕ → Bool) (l : List ℕ) → All (λ x. p x ≡ q x) l → every p l ≡ every q l
-every-ext p q [] h = refl
-every-ext p q (x ∷ l) h = rw (h.0, every-ext p q l h.1)
+pub every_ext : (p q : ℕ → Bool) (l : List ℕ) → All (λ x. p x ≡ q x) l → every p l ≡ every q l
+every_ext p q [] h = refl
+every_ext p q (x ∷ l) h = rw (h.0, every_ext p q l h.1)
 
-pub first-ext : (p q : ℕ → Bool) (l : List ℕ) → ((x : ℕ) → p x ≡ q x) → first_of p l ≡ first_of q l
-first-ext p q [] h = refl
-first-ext p q (x ∷ l) h = rw (h x, first-ext p q l h)
+pub first_ext : (p q : ℕ → Bool) (l : List ℕ) → ((x : ℕ) → p x ≡ q x) → first_of p l ≡ first_of q l
+first_ext p q [] h = refl
+first_ext p q (x ∷ l) h = rw (h x, first_ext p q l h)
 
 -- what `first_of` finds passes
 abbrev pub Passing : (ℕ → Bool) → Option ℕ → Type 0
@@ -70,17 +70,17 @@ first_passes p (x ∷ l) = go (p x) refl (first_passes p l)
     go true e h = e
     go false e h = h
 
-pub every-not : (p : ℕ → Bool) (l : List ℕ) → every (λ x. not (p x)) l ≡ not (any p l)
-every-not p [] = refl
-every-not p (x ∷ l) = go (p x) (every-not p l)
+pub every_not : (p : ℕ → Bool) (l : List ℕ) → every (λ x. not (p x)) l ≡ not (any p l)
+every_not p [] = refl
+every_not p (x ∷ l) = go (p x) (every_not p l)
   where
     go : (b : Bool) → every (λ y. not (p y)) l ≡ not (any p l) → not b && every (λ y. not (p y)) l ≡ not (b || any p l)
     go true e = refl
     go false e = e
 
-pub any-map : (p q : ℕ → Bool) (l : List ℕ) → ((x : ℕ) → p x ≡ true → q x ≡ true) → any p l ≡ true → any q l ≡ true
-any-map p q [] f e = e
-any-map p q (x ∷ l) f e = ⊎_elim (λ h. or_left (q x) _ (f x h)) (λ h. or_right (q x) _ (any-map p q l f h)) (or_cases (p x) _ e)
+pub any_map : (p q : ℕ → Bool) (l : List ℕ) → ((x : ℕ) → p x ≡ true → q x ≡ true) → any p l ≡ true → any q l ≡ true
+any_map p q [] f e = e
+any_map p q (x ∷ l) f e = ⊎_elim (λ h. or_left (q x) _ (f x h)) (λ h. or_right (q x) _ (any_map p q l f h)) (or_cases (p x) _ e)
 
 pub any_part : (p q : ℕ → Bool) (l : List ℕ) → any p (those q l) ≡ true → any p l ≡ true
 any_part p q [] e = e
@@ -92,25 +92,25 @@ any_part p q (x ∷ l) e = go (q x) e (any_part p q l)
     go false d ih = or_right (p x) _ (ih d)
 
 -- of a list whose elements all pass p, some passes q: it passes both
-pub any-both : (p q : ℕ → Bool) (l : List ℕ) → every p l ≡ true → any q l ≡ true → any (λ x. p x && q x) l ≡ true
-any-both p q [] e d = d
-any-both p q (x ∷ l) e d =
+pub any_both : (p q : ℕ → Bool) (l : List ℕ) → every p l ≡ true → any q l ≡ true → any (λ x. p x && q x) l ≡ true
+any_both p q [] e d = d
+any_both p q (x ∷ l) e d =
     let (t, u) = and_cases (p x) _ e in
-    ⊎_elim (λ h. or_left (p x && q x) _ (and_both (p x) (q x) t h)) (λ h. or_right (p x && q x) _ (any-both p q l u h)) (or_cases (q x) _ d)
+    ⊎_elim (λ h. or_left (p x && q x) _ (and_both (p x) (q x) t h)) (λ h. or_right (p x && q x) _ (any_both p q l u h)) (or_cases (q x) _ d)
 
 -- how many fail p
 abbrev pub lacking : (ℕ → Bool) → List ℕ → ℕ
 lacking p l = length (those (λ x. not (p x)) l)
 
 -- the same of x ∷ l, where b is what x passes
-abbrev lackingWith : Bool → (ℕ → Bool) → ℕ → List ℕ → ℕ
-lackingWith b p x l = length (cond (not b) (x ∷ those (λ y. not (p y)) l) (those (λ y. not (p y)) l))
+abbrev lacking_with : Bool → (ℕ → Bool) → ℕ → List ℕ → ℕ
+lacking_with b p x l = length (cond (not b) (x ∷ those (λ y. not (p y)) l) (those (λ y. not (p y)) l))
 
-pub lacking-length : (p : ℕ → Bool) (l : List ℕ) → lacking p l ≤ length l
-lacking-length p [] = omega arith
-lacking-length p (x ∷ l) = go (p x) (lacking-length p l)
+pub lacking_length : (p : ℕ → Bool) (l : List ℕ) → lacking p l ≤ length l
+lacking_length p [] = omega arith
+lacking_length p (x ∷ l) = go (p x) (lacking_length p l)
   where
-    go : (b : Bool) → lacking p l ≤ length l → lackingWith b p x l ≤ suc (length l)
+    go : (b : Bool) → lacking p l ≤ length l → lacking_with b p x l ≤ suc (length l)
     go true h = omega arith
     go false h = omega arith
 
@@ -119,7 +119,7 @@ module _ (p q : ℕ → Bool) (more : (x : ℕ) → p x ≡ true → q x ≡ tru
   no_more [] = omega arith
   no_more (x ∷ l) = go (p x) (q x) (more x) (no_more l)
     where
-      go : (a b : Bool) → (a ≡ true → b ≡ true) → lacking q l ≤ lacking p l → lackingWith b q x l ≤ lackingWith a p x l
+      go : (a b : Bool) → (a ≡ true → b ≡ true) → lacking q l ≤ lacking p l → lacking_with b q x l ≤ lacking_with a p x l
       go true true f h = h
       go true false f h = absurd (false≢true (f refl))
       go false true f h = omega arith
@@ -132,7 +132,7 @@ module _ (p q : ℕ → Bool) (more : (x : ℕ) → p x ≡ true → q x ≡ tru
     where
       go : (a b : Bool) → (a ≡ true → b ≡ true) → (not a && b) || any (λ y. not (p y) && q y) l ≡ true
           → (any (λ y. not (p y) && q y) l ≡ true → lacking q l < lacking p l) → lacking q l ≤ lacking p l
-          → lackingWith b q x l < lackingWith a p x l
+          → lacking_with b q x l < lacking_with a p x l
       go true true f d ih h = ih d
       go true false f d ih h = absurd (false≢true (f refl))
       go false true f d ih h = omega arith

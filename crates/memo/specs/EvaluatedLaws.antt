@@ -11,7 +11,7 @@ use Rattle.common.specs.BoolLaws.{and_cases, and_both}
 use Rattle.policy.specs.declared.Record.{Record}
 use Rattle.policy.specs.declared.Memo.{Memo}
 use Rattle.memo.specs.Memo.{known, value, noted, evaluated}
-use Rattle.memo.specs.Walk.{formulaOf, knownFalse}
+use Rattle.memo.specs.Walk.{formula_of, known_false}
 
 -- a truth value put in a list is there, if it has a place
 placed : (l : List Bool) (f : ℕ) (v : Bool) → get_or (set l f v) f false ≡ cond (ltb f (length l)) v false
@@ -61,8 +61,8 @@ module _ (truth : ℕ → Bool) where
         settled = λ f e. e;
       }
 
-  same-trans : {k m n : Memo} → Same k m → Same m n → Same k n
-  same-trans a b =
+  same_trans : {k m n : Memo} → Same k m → Same m n → Same k n
+  same_trans a b =
       record {
         object = b.object ∙ a.object;
         requestor = b.requestor ∙ a.requestor;
@@ -73,14 +73,14 @@ module _ (truth : ℕ → Bool) where
         settled = λ f e. b.settled f (a.settled f e);
       }
 
-  pub known-view : (m : Memo) (f : ℕ) → known m f ≡ true → value m f ≡ view m f
-  known-view m f e = rw e refl
+  pub known_view : (m : Memo) (f : ℕ) → known m f ≡ true → value m f ≡ view m f
+  known_view m f e = rw e refl
 
-  pub unknown-view : (m : Memo) (f : ℕ) → known m f ≡ false → view m f ≡ cond (ltb f (length m.value)) (truth f) false
-  unknown-view m f e = rw e refl
+  pub unknown_view : (m : Memo) (f : ℕ) → known m f ≡ false → view m f ≡ cond (ltb f (length m.value)) (truth f) false
+  unknown_view m f e = rw e refl
 
-  same-value : {m n : Memo} (f : ℕ) → Same m n → known m f ≡ true → value n f ≡ value m f
-  same-value {m} {n} f s e = known-view n f (s.keeps f e) ∙ s.views f ∙ sym (known-view m f e)
+  same_value : {m n : Memo} (f : ℕ) → Same m n → known m f ≡ true → value n f ≡ value m f
+  same_value {m} {n} f s e = known_view n f (s.keeps f e) ∙ s.views f ∙ sym (known_view m f e)
 
   -- ---- one evaluation
 
@@ -91,42 +91,42 @@ module _ (truth : ℕ → Bool) where
     pub same : Same m n
 
   module _ (m : Memo) (f : ℕ) (e : known m f ≡ false) where
-    noted-value : value (noted m f (truth f)) f ≡ view m f
-    noted-value = placed m.value f (truth f) ∙ sym (unknown-view m f e)
+    noted_value : value (noted m f (truth f)) f ≡ view m f
+    noted_value = placed m.value f (truth f) ∙ sym (unknown_view m f e)
 
-    noted-view : (g : ℕ) → Dec (g ≡ f) → view (noted m f (truth f)) g ≡ view m g
-    noted-view g (yes q) = subst (λ (x : ℕ). view (noted m f (truth f)) x ≡ view m x) (sym q) at_f
+    noted_view : (g : ℕ) → Dec (g ≡ f) → view (noted m f (truth f)) g ≡ view m g
+    noted_view g (yes q) = subst (λ (x : ℕ). view (noted m f (truth f)) x ≡ view m x) (sym q) at_f
       where
         at_f : view (noted m f (truth f)) f ≡ view m f
         at_f =
             rw (placed m.known f true, placed m.value f (truth f), length-set m.value f (truth f))
-            (either_way (ltb f (length m.known)) _ ∙ sym (unknown-view m f e))
-    noted-view g (no q) =
+            (either_way (ltb f (length m.known)) _ ∙ sym (unknown_view m f e))
+    noted_view g (no q) =
         rw (
           get_or-set_other m.known f g true false q,
           get_or-set_other m.value f g (truth f) false q,
           length-set m.value f (truth f),
         )
 
-    noted-keeps : (g : ℕ) → known m g ≡ true → known (noted m f (truth f)) g ≡ true
-    noted-keeps g k = get_or-set_other m.known f g true false (λ q. false≢true (sym e ∙ subst (λ (x : ℕ). known m x ≡ true) q k)) ∙ k
+    noted_keeps : (g : ℕ) → known m g ≡ true → known (noted m f (truth f)) g ≡ true
+    noted_keeps g k = get_or-set_other m.known f g true false (λ q. false≢true (sym e ∙ subst (λ (x : ℕ). known m x ≡ true) q k)) ∙ k
 
-    noted-settled : (g : ℕ) → Dec (g ≡ f) → value m g ≡ view m g → value (noted m f (truth f)) g ≡ view (noted m f (truth f)) g
-    noted-settled g (yes q) s =
+    noted_settled : (g : ℕ) → Dec (g ≡ f) → value m g ≡ view m g → value (noted m f (truth f)) g ≡ view (noted m f (truth f)) g
+    noted_settled g (yes q) s =
         subst (λ (x : ℕ). value (noted m f (truth f)) x ≡ view (noted m f (truth f)) x) (sym q)
-        (noted-value ∙ sym (noted-view f (yes refl)))
-    noted-settled g (no q) s = get_or-set_other m.value f g (truth f) false q ∙ s ∙ sym (noted-view g (no q))
+        (noted_value ∙ sym (noted_view f (yes refl)))
+    noted_settled g (no q) s = get_or-set_other m.value f g (truth f) false q ∙ s ∙ sym (noted_view g (no q))
 
-    noted-same : Same m (noted m f (truth f))
-    noted-same =
+    noted_same : Same m (noted m f (truth f))
+    noted_same =
         record {
           object = refl;
           requestor = refl;
           knowns = length-set m.known f true;
           values = length-set m.value f (truth f);
-          views = λ g. noted-view g (ℕ_discrete g f);
-          keeps = noted-keeps;
-          settled = λ g. noted-settled g (ℕ_discrete g f);
+          views = λ g. noted_view g (ℕ_discrete g f);
+          keeps = noted_keeps;
+          settled = λ g. noted_settled g (ℕ_discrete g f);
         }
 
   pub evaluates : (m : Memo) (f : ℕ) → Evaluated m f (evaluated truth m f)
@@ -134,32 +134,32 @@ module _ (truth : ℕ → Bool) where
   evaluates m f = go (known m f) refl
     where
       go : (b : Bool) → known m f ≡ b → Evaluated m f (cond b m (noted m f (truth f)))
-      go true e = record { knows = λ l. e; is = known-view m f e; same = same_self m }
+      go true e = record { knows = λ l. e; is = known_view m f e; same = same_self m }
       go false e =
           record {
             knows = get_or-set_same m.known f true false;
-            is = noted-value m f e ∙ sym ((noted-same m f e).views f);
-            same = noted-same m f e;
+            is = noted_value m f e ∙ sym ((noted_same m f e).views f);
+            same = noted_same m f e;
           }
 
   -- ---- evaluations of principals' formulas, one after another
 
   module _ (r : Record) where
     -- what was known false still is
-    pub still_false : {m n : Memo} (p : ℕ) → Same m n → knownFalse r m p ≡ true → knownFalse r n p ≡ true
+    pub still_false : {m n : Memo} (p : ℕ) → Same m n → known_false r m p ≡ true → known_false r n p ≡ true
     still_false {m} {n} p s e =
-        let (t, u) = and_cases (known m (formulaOf r p)) _ e in
-        and_both (known n (formulaOf r p)) _ (s.keeps (formulaOf r p) t) (ap not (same-value (formulaOf r p) s t) ∙ u)
+        let (t, u) = and_cases (known m (formula_of r p)) _ e in
+        and_both (known n (formula_of r p)) _ (s.keeps (formula_of r p) t) (ap not (same_value (formula_of r p) s t) ∙ u)
 
     -- they lead from a memo to n
     pub data Reached (n : Memo) : Memo → Type 0 where
       here : Reached n n
-      from : {m : Memo} (p : ℕ) → p < r.principal_count → Reached n (evaluated truth m (formulaOf r p)) → Reached n m
+      from : {m : Memo} (p : ℕ) → p < r.principal_count → Reached n (evaluated truth m (formula_of r p)) → Reached n m
 
-    pub reached-on : {k m n : Memo} → Reached m k → Reached n m → Reached n k
-    reached-on here b = b
-    reached-on (from p l a) b = from p l (reached-on a b)
+    pub reached_on : {k m n : Memo} → Reached m k → Reached n m → Reached n k
+    reached_on here b = b
+    reached_on (from p l a) b = from p l (reached_on a b)
 
-    pub reached-same : {m n : Memo} → Reached n m → Same m n
-    reached-same {m} here = same_self m
-    reached-same {m} (from p l a) = same-trans (evaluates m (formulaOf r p)).same (reached-same a)
+    pub reached_same : {m n : Memo} → Reached n m → Same m n
+    reached_same {m} here = same_self m
+    reached_same {m} (from p l a) = same_trans (evaluates m (formula_of r p)).same (reached_same a)

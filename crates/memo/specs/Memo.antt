@@ -1,6 +1,6 @@
 -- The memo (document 01, "Questions and edits"): what a question finds in it, what an evaluation enters, and the count of evaluations.
 use Rattle.std.specs.Prelude.{ℕ, Bool, true, false, not, cond, ◌&&◌, length, get_or, set, eqb}
-use Rattle.common.specs.Limits.{mostFormulas}
+use Rattle.common.specs.Limits.{most_formulas}
 use Rattle.common.specs.Lists.{those, below}
 use Rattle.policy.specs.declared.Memo.{Memo}
 use Rattle.policy.specs.Table.{emptied}
@@ -20,9 +20,9 @@ unfoldable pub evaluated : (ℕ → Bool) → Memo → ℕ → Memo
 evaluated truth m f = cond (known m f) m (noted m f (truth f))
 
 -- "If the memo's pair differs, the memo is first emptied and takes the new pair."
-unfoldable pub memoFor : Memo → Question → Memo
-memoFor m q = cond (eqb m.object q.object && eqb m.requestor q.requestor) m (emptied q.object q.requestor)
+unfoldable pub memo_for : Memo → Question → Memo
+memo_for m q = cond (eqb m.object q.object && eqb m.requestor q.requestor) m (emptied q.object q.requestor)
 
 -- "the evaluations: the number of formulas known after and not known before"
 unfoldable pub newly : Memo → Memo → ℕ
-newly before after = length (those (λ f. known after f && not (known before f)) (below mostFormulas))
+newly before after = length (those (λ f. known after f && not (known before f)) (below most_formulas))

@@ -10,8 +10,8 @@ use Rattle.memo.specs.declared.Tried.{Tried}
 use Rattle.memo.specs.Memo.{known, value, evaluated}
 
 -- principal p's own formula
-abbrev pub formulaOf : Record → ℕ → ℕ
-formulaOf r p = at r.principal_formulas p
+abbrev pub formula_of : Record → ℕ → ℕ
+formula_of r p = at r.principal_formulas p
 
 -- ---- what a question comes to, with the memo as it then is
 
@@ -35,12 +35,12 @@ left (denied m) = m
 
 -- ---- eager: each principal in rising number has its formula evaluated unless known; then the least set of enabled principals
 
-unfoldable pub evaluatedAll : (ℕ → Bool) → Record → Memo → List ℕ → Memo
-evaluatedAll truth r m [] = m
-evaluatedAll truth r m (p ∷ ps) = evaluatedAll truth r (evaluated truth m (formulaOf r p)) ps
+unfoldable pub evaluated_all : (ℕ → Bool) → Record → Memo → List ℕ → Memo
+evaluated_all truth r m [] = m
+evaluated_all truth r m (p ∷ ps) = evaluated_all truth r (evaluated truth m (formula_of r p)) ps
 
 unfoldable pub eagerly : Record → ℕ → Memo → Outcome
-eagerly r k after = outcome after (least r k (λ p. value after (formulaOf r p)))
+eagerly r k after = outcome after (least r k (λ p. value after (formula_of r p)))
 
 -- ---- lazy: what weighing a candidate comes to, with the memo as it then is
 
@@ -49,39 +49,39 @@ pub data Weighed : Type 0 where
   ends : Memo → Weighed
 
 -- the same of the code's answer
-abbrev pub weighedOf : Tried → Weighed
-weighedOf t = cond t.survives (survives t.memo) (ends t.memo)
+abbrev pub weighed_of : Tried → Weighed
+weighed_of t = cond t.survives (survives t.memo) (ends t.memo)
 
 -- members in rising number are evaluated unless known; the first that is not enabled ends the candidate
 unfoldable pub tried : (ℕ → Bool) → Record → Memo → List ℕ → Weighed
 tried truth r m [] = survives m
 tried truth r m (p ∷ ps) =
-    cond (value (evaluated truth m (formulaOf r p)) (formulaOf r p))
-    (tried truth r (evaluated truth m (formulaOf r p)) ps)
-    (ends (evaluated truth m (formulaOf r p)))
+    cond (value (evaluated truth m (formula_of r p)) (formula_of r p))
+    (tried truth r (evaluated truth m (formula_of r p)) ps)
+    (ends (evaluated truth m (formula_of r p)))
 
-abbrev pub knownFalse : Record → Memo → ℕ → Bool
-knownFalse r m p = known m (formulaOf r p) && not (value m (formulaOf r p))
+abbrev pub known_false : Record → Memo → ℕ → Bool
+known_false r m p = known m (formula_of r p) && not (value m (formula_of r p))
 
 -- a candidate with a member whose formula is known false is passed over
 unfoldable pub weighed : (ℕ → Bool) → Record → Memo → List ℕ → Weighed
-weighed truth r m ps = cond (any (knownFalse r m) ps) (ends m) (tried truth r m ps)
+weighed truth r m ps = cond (any (known_false r m) ps) (ends m) (tried truth r m ps)
 
-abbrev pub afterWeighing : ℕ → Weighed → (Memo → Outcome) → Outcome
-afterWeighing c (survives m) next = granted c m
-afterWeighing c (ends m) next = next m
+abbrev pub after_weighing : ℕ → Weighed → (Memo → Outcome) → Outcome
+after_weighing c (survives m) next = granted c m
+after_weighing c (ends m) next = next m
 
 -- the first candidate that survives is the answer
 unfoldable pub walk : (ℕ → Bool) → Record → Memo → List ℕ → Outcome
 walk truth r m [] = denied m
-walk truth r m (c ∷ cs) = afterWeighing c (weighed truth r m (members r c)) (λ after. walk truth r after cs)
+walk truth r m (c ∷ cs) = after_weighing c (weighed truth r m (members r c)) (λ after. walk truth r after cs)
 
 -- ---- the same by at most n searches: each finds the least candidate of method k without a principal that is known false
 
-abbrev pub tryNext : (ℕ → Bool) → Record → Memo → Option ℕ → (Memo → Outcome) → Outcome
-tryNext truth r m none next = denied m
-tryNext truth r m (some c) next = afterWeighing c (tried truth r m (members r c)) next
+abbrev pub try_next : (ℕ → Bool) → Record → Memo → Option ℕ → (Memo → Outcome) → Outcome
+try_next truth r m none next = denied m
+try_next truth r m (some c) next = after_weighing c (tried truth r m (members r c)) next
 
 unfoldable pub searching : ℕ → (ℕ → Bool) → Record → ℕ → Memo → Outcome
 searching zero truth r k m = denied m
-searching (suc n) truth r k m = tryNext truth r m (least r k (λ p. not (knownFalse r m p))) (searching n truth r k)
+searching (suc n) truth r k m = try_next truth r m (least r k (λ p. not (known_false r m p))) (searching n truth r k)

@@ -1,18 +1,18 @@
 // The memo of a record, and the steps of the two questions on it: what is evaluated and entered, member by member or all at once.
 
 ghost use Rattle.std.specs.Prelude.{◌≡◌, not, cond, ◌&&◌, ◌≤◌, ◌<◌};
-ghost use Rattle.common.specs.Limits.{mostFormulas};
+ghost use Rattle.common.specs.Limits.{most_formulas};
 ghost use Rattle.common.specs.Lists.{at, below};
 ghost use Rattle.edge_index.specs.Index.{Indexed};
 ghost use Rattle.policy.specs.declared.Record as records;
-ghost use Rattle.vertices.specs.Steps.{edgesIn};
-ghost use Rattle.formula.specs.Evaluation.{formulasIn, context_of};
+ghost use Rattle.vertices.specs.Steps.{edges_in};
+ghost use Rattle.formula.specs.Evaluation.{formulas_in, context_of};
 ghost use Rattle.justification.specs.Justification.{members};
 ghost use Rattle.justification.specs.MarkedSets.{Marks};
-ghost use Rattle.memo.specs.Memo.{known, value, memoFor};
+ghost use Rattle.memo.specs.Memo.{known, value, memo_for};
 ghost use Rattle.memo.specs.Memo as memos;
-ghost use Rattle.memo.specs.Walk.{evaluatedAll, tried, weighedOf};
-ghost use Rattle.memo.specs.Lent.{FormulasFit, Principals, truthIn};
+ghost use Rattle.memo.specs.Walk.{evaluated_all, tried, weighed_of};
+ghost use Rattle.memo.specs.Lent.{FormulasFit, Principals, truth_in};
 ghost use Rattle.memo.specs.WalkLaws.{MemoLengths};
 
 use common::{LABEL_COUNT, MOST_EDGES, MOST_FORMULAS, MOST_PRINCIPALS};
@@ -28,7 +28,7 @@ pub struct Tried {
 
 // The memo for a question: if its pair differs, it is first emptied and takes the new pair.
 pub fn memo_for(memo: Memo, question: Question) -> Memo
-    ensures { (result ≡ memoFor memo question) × MemoLengths result }
+    ensures { (result ≡ memo_for memo question) × MemoLengths result }
 {
     if memo.object != question.object {
         return policy::emptied(question.object, question.requestor);
@@ -58,10 +58,10 @@ fn evaluated<'a>(
     f: usize,
 ) -> Memo
     requires { Indexed edge_count labels.now sources.now targets.now firsts.now counts.now places.now
-        × (f < mostFormulas) }
-    ensures { result ≡ memos.evaluated (truthIn (context_of roles object requestor
-        (edgesIn edge_count labels.now sources.now targets.now))
-        (formulasIn ops.now lefts.now rights.now)) memo f }
+        × (f < most_formulas) }
+    ensures { result ≡ memos.evaluated (truth_in (context_of roles object requestor
+        (edges_in edge_count labels.now sources.now targets.now))
+        (formulas_in ops.now lefts.now rights.now)) memo f }
 {
     if memo.known[f] {
         return memo;
@@ -129,9 +129,9 @@ pub fn evaluated_all<'a>(
     requires { Indexed edge_count labels.now sources.now targets.now firsts.now counts.now places.now
         × FormulasFit count formulas.now }
     ensures { (rules : records.Record) → Principals count formulas.now rules
-        → result ≡ evaluatedAll (truthIn (context_of roles object requestor
-        (edgesIn edge_count labels.now sources.now targets.now))
-        (formulasIn ops.now lefts.now rights.now)) rules memo (below count) }
+        → result ≡ evaluated_all (truth_in (context_of roles object requestor
+        (edges_in edge_count labels.now sources.now targets.now))
+        (formulas_in ops.now lefts.now rights.now)) rules memo (below count) }
 {
     let mut m = memo;
     let mut p: usize = 0;
@@ -203,9 +203,9 @@ pub fn weigh<'a>(
     requires { Indexed edge_count labels.now sources.now targets.now firsts.now counts.now places.now
         × FormulasFit count formulas.now }
     ensures { (rules : records.Record) → Principals count formulas.now rules
-        → weighedOf result ≡ tried (truthIn (context_of roles object requestor
-        (edgesIn edge_count labels.now sources.now targets.now))
-        (formulasIn ops.now lefts.now rights.now)) rules memo (members rules c) }
+        → weighed_of result ≡ tried (truth_in (context_of roles object requestor
+        (edges_in edge_count labels.now sources.now targets.now))
+        (formulas_in ops.now lefts.now rights.now)) rules memo (members rules c) }
 {
     let mut m = memo;
     let mut p: usize = 0;

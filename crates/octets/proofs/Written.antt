@@ -3,16 +3,16 @@ use Rattle.std.proofs.Common.{◌≡◌, ℕ, ◌+◌, ◌-◌, ◌*◌, ◌/◌
 use lib.Seq.{set_at, append_snoc, take-length}
 use borrow.Author.Tests.{lt-leb}
 use Rattle.common.specs.Lists.{at}
-use Rattle.common.specs.ListLaws.{drop-one, drop-two}
-use Rattle.octets.specs.Line.{total, digit, digits, check, framed, lineBytes}
-use Rattle.octets.specs.WritingLaws.{length_digits, length-framed, length-line, total-append}
-use Rattle.octets.specs.Answers.{placed, hasRoom, writtenLength, writtenBuffer}
+use Rattle.common.specs.ListLaws.{drop_one, drop_two}
+use Rattle.octets.specs.Line.{total, digit, digits, check, framed, line_bytes}
+use Rattle.octets.specs.WritingLaws.{length_digits, length_framed, length_line, total_append}
+use Rattle.octets.specs.Answers.{placed, has_room, written_length, written_buffer}
 
 pub record WrittenOctets (os before after : List ℕ) : Type 0 where
   pub holds : after ≡ digits os ++ drop (2 * length os) before
 
-pub octets-none : (b : List ℕ) → WrittenOctets [] b b
-octets-none b = record { holds = refl }
+pub octets_none : (b : List ℕ) → WrittenOctets [] b b
+octets_none b = record { holds = refl }
 
 digits_append : (os ps : List ℕ) → digits (os ++ ps) ≡ digits os ++ digits ps
 digits_append [] ps = refl
@@ -26,43 +26,43 @@ put_two p x y d e r n l =
     ∙ append_assoc p (d ∷ []) (e ∷ r)
 
 -- one octet more
-pub octets-more : (os : List ℕ) (o offset : ℕ) {b a : List ℕ} → offset ≡ 2 * length os → offset + 1 < length b
+pub octets_more : (os : List ℕ) (o offset : ℕ) {b a : List ℕ} → offset ≡ 2 * length os → offset + 1 < length b
     → WrittenOctets os b a → WrittenOctets (os ++ o ∷ []) b (placed a offset o)
-octets-more os o offset {b} {a} e l w =
+octets_more os o offset {b} {a} e l w =
     let d = digit (o / 16) in
     let f = digit (o % 16) in
     let n : 2 * length (os ++ o ∷ []) ≡ 2 * length os + 2 = omega (arith, length-append os (o ∷ [])) in
     record {
       holds =
-          (λ i. placed ((w.holds ∙ ap (λ (r : List ℕ). digits os ++ r) (drop-two b (2 * length os) (omega arith))) i) (e i) o)
+          (λ i. placed ((w.holds ∙ ap (λ (r : List ℕ). digits os ++ r) (drop_two b (2 * length os) (omega arith))) i) (e i) o)
           ∙ put_two (digits os) _ _ d f (drop (2 * length os + 2) b) (2 * length os) (length_digits os)
           ∙ sym (append_assoc (digits os) (d ∷ f ∷ []) (drop (2 * length os + 2) b))
           ∙ sym (λ i. digits_append os (o ∷ []) i ++ drop (n i) b);
     }
 
 -- the bytes of a line, and past them the buffer as it was
-abbrev lineIn : List ℕ → List ℕ → List ℕ
-lineIn os buffer = lineBytes os ++ drop (length (lineBytes os)) buffer
+abbrev line_in : List ℕ → List ℕ → List ℕ
+line_in os buffer = line_bytes os ++ drop (length (line_bytes os)) buffer
 
 -- the line's end
-pub octets-end : (os : List ℕ) (offset : ℕ) {b a : List ℕ} → offset ≡ 2 * length os → offset < length b
-    → WrittenOctets os b a → set a offset 0x0A ≡ lineIn os b
-octets-end os offset {b} {a} e l w =
-    let n : length (lineBytes os) ≡ 2 * length os + 1 = omega (arith, length-append (digits os) (0x0A ∷ []), length_digits os) in
-    (λ i. set ((w.holds ∙ ap (λ (r : List ℕ). digits os ++ r) (drop-one b (2 * length os) (omega arith))) i) (e i) 0x0A)
+pub octets_end : (os : List ℕ) (offset : ℕ) {b a : List ℕ} → offset ≡ 2 * length os → offset < length b
+    → WrittenOctets os b a → set a offset 0x0A ≡ line_in os b
+octets_end os offset {b} {a} e l w =
+    let n : length (line_bytes os) ≡ 2 * length os + 1 = omega (arith, length-append (digits os) (0x0A ∷ []), length_digits os) in
+    (λ i. set ((w.holds ∙ ap (λ (r : List ℕ). digits os ++ r) (drop_one b (2 * length os) (omega arith))) i) (e i) 0x0A)
     ∙ set_at (digits os) _ (drop (2 * length os + 1) b) 0x0A (2 * length os) (length_digits os)
     ∙ sym (append_assoc (digits os) (0x0A ∷ []) (drop (2 * length os + 1) b))
-    ∙ ap (λ (m : ℕ). lineBytes os ++ drop m b) (sym n)
+    ∙ ap (λ (m : ℕ). line_bytes os ++ drop m b) (sym n)
 
 -- ---- the loop of `write_line`
 
 -- the length and the kind come first
-pub octets-two : (len kind : ℕ) {entry a b : List ℕ} → 3 < length entry → a ≡ placed entry 0 len → b ≡ placed a 2 kind
+pub octets_two : (len kind : ℕ) {entry a b : List ℕ} → 3 < length entry → a ≡ placed entry 0 len → b ≡ placed a 2 kind
     → WrittenOctets (len ∷ kind ∷ []) entry b
-octets-two len kind {entry} {a} {b} l e f =
+octets_two len kind {entry} {a} {b} l e f =
     let w : WrittenOctets (len ∷ []) entry a =
-    subst (WrittenOctets (len ∷ []) entry) (sym e) (octets-more [] len 0 refl (omega arith) (octets-none entry)) in
-    subst (WrittenOctets (len ∷ kind ∷ []) entry) (sym f) (octets-more (len ∷ []) kind 2 refl (omega arith) w)
+    subst (WrittenOctets (len ∷ []) entry) (sym e) (octets_more [] len 0 refl (omega arith) (octets_none entry)) in
+    subst (WrittenOctets (len ∷ kind ∷ []) entry) (sym f) (octets_more (len ∷ []) kind 2 refl (omega arith) w)
 
 -- k octets of the body have been written after the first two, in a buffer that was buffer₀ before the loop
 pub record BodyWritten (len kind : ℕ) (body buffer₀ : List ℕ) (n sum₀ : ℕ) (buffer : List ℕ) (sum k : ℕ) : Type 0 where
@@ -72,8 +72,8 @@ pub record BodyWritten (len kind : ℕ) (body buffer₀ : List ℕ) (n sum₀ : 
   pub holds : (b : List ℕ) → 2 * n + 7 ≤ length b
       → WrittenOctets (len ∷ kind ∷ []) b buffer₀ → WrittenOctets (len ∷ kind ∷ take k body) b buffer
 
-pub body-none : (len kind : ℕ) (body buffer : List ℕ) (n sum : ℕ) → sum < 256 → BodyWritten len kind body buffer n sum buffer sum 0
-body-none len kind body buffer n sum l = record { within = omega arith; same = refl; adds = omega arith; holds = λ b h w. w }
+pub body_none : (len kind : ℕ) (body buffer : List ℕ) (n sum : ℕ) → sum < 256 → BodyWritten len kind body buffer n sum buffer sum 0
+body_none len kind body buffer n sum l = record { within = omega arith; same = refl; adds = omega arith; holds = λ b h w. w }
 
 module _ {len kind : ℕ} {body buffer₀ : List ℕ} {n sum₀ : ℕ} {buffer : List ℕ} {sum k : ℕ}
     (w : BodyWritten len kind body buffer₀ n sum₀ buffer sum k) (all : n ≡ length body) where
@@ -86,16 +86,16 @@ module _ {len kind : ℕ} {body buffer₀ : List ℕ} {n sum₀ : ℕ} {buffer :
       record {
         within = omega arith;
         same = ap length e ∙ simp length-set w.same;
-        adds = omega (arith, w.adds, f, ap total t, total-append (take k body) (at body k ∷ []));
+        adds = omega (arith, w.adds, f, ap total t, total_append (take k body) (at body k ∷ []));
         holds = λ b h v.
             subst₂ (λ (x y : List ℕ). WrittenOctets (len ∷ kind ∷ x) b y) (sym t) (sym e)
-            (octets-more (len ∷ kind ∷ take k body) (at body k) (2 * k + 4) (omega arith) (omega arith) (w.holds b h v));
+            (octets_more (len ∷ kind ∷ take k body) (at body k) (2 * k + 4) (omega arith) (omega arith) (w.holds b h v));
       }
 
   -- the check octet and the line's end finish the line
   pub body_end : (entry : List ℕ) (r : ℕ) → k ≡ n → len ≡ n → 2 * n + 7 ≤ length entry → WrittenOctets (len ∷ kind ∷ []) entry buffer₀
       → sum₀ ≡ (len + kind) % 256 → (r + sum) % 256 ≡ 0 → r < 256
-      → set (placed buffer (2 * n + 4) r) (2 * n + 6) 0x0A ≡ lineIn (framed kind body) entry
+      → set (placed buffer (2 * n + 4) r) (2 * n + 6) 0x0A ≡ line_in (framed kind body) entry
   unfolding framed
   body_end entry r e f h v s z l =
       let t : take k body ≡ body = ap (λ (j : ℕ). take j body) (e ∙ all) ∙ take-length body in
@@ -104,31 +104,31 @@ module _ {len kind : ℕ} {body buffer₀ : List ℕ} {n sum₀ : ℕ} {buffer :
       let u : WrittenOctets (length body ∷ kind ∷ body) entry buffer =
       subst (λ (x : List ℕ). WrittenOctets x entry buffer) os (w.holds entry h v) in
       let c : r ≡ check (total (length body ∷ kind ∷ body)) = omega (arith, w.adds, ap total t) in
-      octets-end (framed kind body) (2 * n + 6) (omega (arith, length-framed kind body)) (omega arith)
+      octets_end (framed kind body) (2 * n + 6) (omega (arith, length_framed kind body)) (omega arith)
       (subst (λ (x : ℕ). WrittenOctets ((length body ∷ kind ∷ body) ++ (x ∷ [])) entry (placed buffer (2 * n + 4) r)) c
-      (octets-more (length body ∷ kind ∷ body) r (2 * n + 4) (omega arith) (omega arith) u))
+      (octets_more (length body ∷ kind ∷ body) r (2 * n + 4) (omega arith) (omega arith) u))
 
 -- ---- what is answered
 
 module _ (kind : ℕ) (body buffer : List ℕ) where
-  room-is : (b : Bool) → length body ≤ 255 → leb (2 * length body + 7) (length buffer) ≡ b → hasRoom kind body buffer ≡ b
-  room-is b l e = rw (le-leb (length body) 255 l) (ap (λ (n : ℕ). leb n (length buffer)) (length-line kind body) ∙ e)
+  room_is : (b : Bool) → length body ≤ 255 → leb (2 * length body + 7) (length buffer) ≡ b → has_room kind body buffer ≡ b
+  room_is b l e = rw (le-leb (length body) 255 l) (ap (λ (n : ℕ). leb n (length buffer)) (length_line kind body) ∙ e)
 
   -- n bytes are answered, and the buffer then is `after`
   abbrev Answers : ℕ → List ℕ → Type 0
-  Answers n after = (n ≡ writtenLength kind body buffer) × (after ≡ writtenBuffer kind body buffer)
+  Answers n after = (n ≡ written_length kind body buffer) × (after ≡ written_buffer kind body buffer)
 
   -- nothing is written
-  pub too_long : 255 < length body → Answers 0 buffer
-  unfolding writtenLength writtenBuffer
-  too_long l = rw (lt-leb (length body) 255 l) (refl, refl)
+  pub too_long_lem : 255 < length body → Answers 0 buffer
+  unfolding written_length written_buffer
+  too_long_lem l = rw (lt-leb (length body) 255 l) (refl, refl)
 
   pub too_short : length body ≤ 255 → length buffer < 2 * length body + 7 → Answers 0 buffer
-  unfolding writtenLength writtenBuffer
-  too_short l h = let e = room-is false l (lt-leb _ _ h) in (rw e, rw e)
+  unfolding written_length written_buffer
+  too_short l h = let e = room_is false l (lt-leb _ _ h) in (rw e, rw e)
 
   -- the line is written
-  pub line-written : length body ≤ 255 → 2 * length body + 7 ≤ length buffer
-      → Answers (2 * length body + 7) (lineIn (framed kind body) buffer)
-  unfolding writtenLength writtenBuffer
-  line-written l h = let e = room-is true l (le-leb _ _ h) in (rw e (sym (length-line kind body)), rw e)
+  pub line_written : length body ≤ 255 → 2 * length body + 7 ≤ length buffer
+      → Answers (2 * length body + 7) (line_in (framed kind body) buffer)
+  unfolding written_length written_buffer
+  line_written l h = let e = room_is true l (le-leb _ _ h) in (rw e (sym (length_line kind body)), rw e)

@@ -5,8 +5,8 @@ use Rattle.std.proofs.Math.Option.{some}
 use Rattle.std.proofs.Math.ListN.{get_or-append}
 use Rattle.common.specs.Lists.{at}
 use Rattle.octets.specs.Line.{Framed, refused, octets, total, frame}
-use Rattle.octets.specs.LineLaws.{refused-is}
-use Rattle.octets.specs.Answers.{LineValues, lineValues, framedValues, sizedTotal, HoldsLine}
+use Rattle.octets.specs.LineLaws.{refused_is}
+use Rattle.octets.specs.Answers.{LineValues, line_values, framed_values, sized_total, HoldsLine}
 use Rattle.octets.specs.declared.Line.{Line}
 use Rattle.octets.specs.declared.Line.TheVariants.{Refused, Octets}
 use Rattle.octets.specs.declared.SizedLine.{SizedLine}
@@ -22,18 +22,18 @@ pub record AnswerOctets (offset count next sum : ℕ) (f : Framed) : Type 0 wher
   pub summed : sum ≡ total os
 
 module _ (offset : ℕ) (t : List ℕ) where
-  values-refused : (k : ℕ) → lineValues (Refused k) ≡ framedValues offset (frame t) → frame t ≡ refused k
-  values-refused k e = go (frame t) e
+  values_refused : (k : ℕ) → line_values (Refused k) ≡ framed_values offset (frame t) → frame t ≡ refused k
+  values_refused k e = go (frame t) e
     where
-      go : (f : Framed) → lineValues (Refused k) ≡ framedValues offset f → f ≡ refused k
+      go : (f : Framed) → line_values (Refused k) ≡ framed_values offset f → f ≡ refused k
       go (refused j) e = ap (λ (v : LineValues). refused v.number) (sym e)
       go (octets os) e = let z = ap (λ (v : LineValues). v.next) e in absurd (omega arith)
 
-  values-octets : (n m s : ℕ) → lineValues (Octets n m s) ≡ framedValues offset (frame t) → AnswerOctets offset n m s (frame t)
-  values-octets n m s e = go (frame t) refl e
+  values_octets : (n m s : ℕ) → line_values (Octets n m s) ≡ framed_values offset (frame t) → AnswerOctets offset n m s (frame t)
+  values_octets n m s e = go (frame t) refl e
     where
-      go : (f : Framed) → frame t ≡ f → lineValues (Octets n m s) ≡ framedValues offset f → AnswerOctets offset n m s f
-      go (refused j) q e = let z = ap (λ (v : LineValues). v.number) e in let l = refused-is t q in absurd (omega arith)
+      go : (f : Framed) → frame t ≡ f → line_values (Octets n m s) ≡ framed_values offset f → AnswerOctets offset n m s f
+      go (refused j) q e = let z = ap (λ (v : LineValues). v.number) e in let l = refused_is t q in absurd (omega arith)
       go (octets os) q e =
           record {
             os = os;
@@ -43,33 +43,33 @@ module _ (offset : ℕ) (t : List ℕ) where
             summed = ap (λ (v : LineValues). v.total) e;
           }
 
-  module _ {r : Line} (e : lineValues r ≡ framedValues offset (frame t)) where
-    pub answer-refused : {k : ℕ} → r ≡ Refused k → frame t ≡ refused k
-    answer-refused {k} a = values-refused k (ap lineValues (sym a) ∙ e)
+  module _ {r : Line} (e : line_values r ≡ framed_values offset (frame t)) where
+    pub answer_refused : {k : ℕ} → r ≡ Refused k → frame t ≡ refused k
+    answer_refused {k} a = values_refused k (ap line_values (sym a) ∙ e)
 
-    pub answer-octets : {n m s : ℕ} → r ≡ Octets n m s → AnswerOctets offset n m s (frame t)
-    answer-octets {n} {m} {s} a = values-octets n m s (ap lineValues (sym a) ∙ e)
+    pub answer_octets_lem : {n m s : ℕ} → r ≡ Octets n m s → AnswerOctets offset n m s (frame t)
+    answer_octets_lem {n} {m} {s} a = values_octets n m s (ap line_values (sym a) ∙ e)
 
   -- the number and values say which answer it is
-  pub same_line : (a b : Line) → lineValues a ≡ framedValues offset (frame t) → lineValues b ≡ framedValues offset (frame t) → a ≡ b
+  pub same_line : (a b : Line) → line_values a ≡ framed_values offset (frame t) → line_values b ≡ framed_values offset (frame t) → a ≡ b
   same_line (Refused j) (Refused k) e f = ap (λ (v : LineValues). Refused v.number) (e ∙ sym f)
   same_line (Refused j) (Octets n m s) e f =
-      let q = values-refused j e in let w = (values-octets n m s f).framed in let z : ◌≡◌ {A = ℕ} 0 1 = cc in absurd (omega arith)
+      let q = values_refused j e in let w = (values_octets n m s f).framed in let z : ◌≡◌ {A = ℕ} 0 1 = cc in absurd (omega arith)
   same_line (Octets n m s) (Refused k) e f =
-      let q = values-refused k f in let w = (values-octets n m s e).framed in let z : ◌≡◌ {A = ℕ} 0 1 = cc in absurd (omega arith)
+      let q = values_refused k f in let w = (values_octets n m s e).framed in let z : ◌≡◌ {A = ℕ} 0 1 = cc in absurd (omega arith)
   same_line (Octets n m s) (Octets x y z) e f = ap (λ (v : LineValues). Octets v.count v.next v.total) (e ∙ sym f)
 
 -- and so does the plain sum of a line of a size
-pub same-sized : (a b : SizedLine) → sizedTotal a ≡ sizedTotal b → a ≡ b
-same-sized Other Other e = refl
-same-sized Other (sized.Octets t) e = let z : ◌≡◌ {A = ℕ} 0 1 = cc in absurd (omega arith)
-same-sized (sized.Octets s) Other e = let z : ◌≡◌ {A = ℕ} 0 1 = cc in absurd (omega arith)
-same-sized (sized.Octets s) (sized.Octets t) e = ap sized.Octets (go e)
+pub same_sized : (a b : SizedLine) → sized_total a ≡ sized_total b → a ≡ b
+same_sized Other Other e = refl
+same_sized Other (sized.Octets t) e = let z : ◌≡◌ {A = ℕ} 0 1 = cc in absurd (omega arith)
+same_sized (sized.Octets s) Other e = let z : ◌≡◌ {A = ℕ} 0 1 = cc in absurd (omega arith)
+same_sized (sized.Octets s) (sized.Octets t) e = ap sized.Octets (go e)
   where
     go : some s ≡ some t → s ≡ t
     go e = cc
 
 -- the octets of a line of the size, in the room that holds it
-pub held-octet : {size : ℕ} {f : Framed} (before : List ℕ) {after os : List ℕ} → HoldsLine size f before after → f ≡ octets os
+pub held_octet : {size : ℕ} {f : Framed} (before : List ℕ) {after os : List ℕ} → HoldsLine size f before after → f ≡ octets os
     → length os ≡ size → (k : ℕ) → k < size → at after k ≡ at os k
-held-octet before {os = os} h e s k l = ap (λ (r : List ℕ). at r k) (h os e s) ∙ get_or-append os _ 0 k (omega arith)
+held_octet before {os = os} h e s k l = ap (λ (r : List ℕ). at r k) (h os e s) ∙ get_or-append os _ 0 k (omega arith)

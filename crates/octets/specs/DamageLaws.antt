@@ -6,10 +6,10 @@ use Rattle.std.proofs.lemmas.Bool.{false≢true}
 use Rattle.std.proofs.Math.Decide.{dec_lt}
 use Rattle.common.specs.Lists.{at, any, every}
 use Rattle.common.specs.BoolLaws.{and_cases, or_right}
-use Rattle.octets.specs.Line.{digitValue, line_of, rest_of, ended, octetsOf, total, Framed, refused, octets, frame, lines}
-use Rattle.octets.specs.LineLaws.{digit-is, Pairs, pairs-even, Accepted, LineJudged, frame-judged, lines_cons}
+use Rattle.octets.specs.Line.{digit_value, line_of, rest_of, ended, octets_of, total, Framed, refused, octets, frame, lines}
+use Rattle.octets.specs.LineLaws.{digit_is, Pairs, pairs_even, Accepted, LineJudged, frame_judged, lines_cons}
 use Rattle.octets.specs.LineLaws.LineJudged.{accepts, refuses}
-use Rattle.octets.specs.Damage.{OneAltered, isAccepted, is_refused, wellFramed, hasRefusedLine}
+use Rattle.octets.specs.Damage.{OneAltered, is_accepted, is_refused, well_framed, has_refused_line}
 use Rattle.octets.specs.Damage.OneAltered.{this, next}
 
 -- ---- an altered digit alters the sum by less than 256
@@ -18,15 +18,15 @@ differ : (m n : ℕ) → m ≢ n → Dec (m < n) → (m < n) ⊎ (n < m)
 differ m n h (yes l) = inl l
 differ m n h (no k) = inr (omega arith)
 
-same-digit : (c d : ℕ) → digitValue c < 16 → digitValue d < 16 → digitValue c ≡ digitValue d → c ≡ d
-same-digit c d p q e =
+same_digit : (c d : ℕ) → digit_value c < 16 → digit_value d < 16 → digit_value c ≡ digit_value d → c ≡ d
+same_digit c d p q e =
     ⊎_elim
-    (λ x. ⊎_elim (λ y. omega arith) (λ y. omega arith) (digit-is d q))
-    (λ x. ⊎_elim (λ y. omega arith) (λ y. omega arith) (digit-is d q))
-    (digit-is c p)
+    (λ x. ⊎_elim (λ y. omega arith) (λ y. omega arith) (digit_is d q))
+    (λ x. ⊎_elim (λ y. omega arith) (λ y. omega arith) (digit_is d q))
+    (digit_is c p)
 
-other-digit : (c d : ℕ) → c ≢ d → digitValue c < 16 → digitValue d < 16 → (digitValue c < digitValue d) ⊎ (digitValue d < digitValue c)
-other-digit c d h p q = differ (digitValue c) (digitValue d) (λ e. h (same-digit c d p q e)) (dec_lt _ _)
+other_digit : (c d : ℕ) → c ≢ d → digit_value c < 16 → digit_value d < 16 → (digit_value c < digit_value d) ⊎ (digit_value d < digit_value c)
+other_digit c d h p q = differ (digit_value c) (digit_value d) (λ e. h (same_digit c d p q e)) (dec_lt _ _)
 
 -- different, by less than 256
 abbrev Apart : ℕ → ℕ → Type 0
@@ -36,23 +36,23 @@ apart_more : (x m n : ℕ) → Apart m n → Apart (x + m) (x + n)
 apart_more x m n (inl p) = inl (omega arith)
 apart_more x m n (inr p) = inr (omega arith)
 
-apart : {l l' : List ℕ} → OneAltered l l' → Pairs l → Pairs l' → Apart (total (octetsOf l)) (total (octetsOf l'))
+apart : {l l' : List ℕ} → OneAltered l l' → Pairs l → Pairs l' → Apart (total (octets_of l)) (total (octets_of l'))
 apart (this {t = []} h) p q = absurd p
 apart (this {b = a} {b' = a'} {t = c ∷ l} h) p q =
-    ⊎_elim (λ k. inl (omega arith)) (λ k. inr (omega arith)) (other-digit a a' h p.0 q.0)
+    ⊎_elim (λ k. inl (omega arith)) (λ k. inr (omega arith)) (other_digit a a' h p.0 q.0)
 apart (next (this {b = a} {b' = a'} {t = l} h)) p q =
-    ⊎_elim (λ k. inl (omega arith)) (λ k. inr (omega arith)) (other-digit a a' h p.1 q.1)
-apart (next (next {t = l} {t' = l'} o)) p q = apart_more _ (total (octetsOf l)) (total (octetsOf l')) (apart o p.2 q.2)
+    ⊎_elim (λ k. inl (omega arith)) (λ k. inr (omega arith)) (other_digit a a' h p.1 q.1)
+apart (next (next {t = l} {t' = l'} o)) p q = apart_more _ (total (octets_of l)) (total (octets_of l')) (apart o p.2 q.2)
 
 -- ---- well framed characters
 
 record LineFramed (l : List ℕ) : Type 0 where
   are : Pairs l
-  long : at (octetsOf l) 0 + 3 ≡ length (octetsOf l)
-  adds : total (octetsOf l) % 256 ≡ 0
+  long : at (octets_of l) 0 + 3 ≡ length (octets_of l)
+  adds : total (octets_of l) % 256 ≡ 0
 
-line-framed : {t os : List ℕ} → Accepted t os → LineFramed (line_of t)
-line-framed {t} {os} a =
+line_framed : {t os : List ℕ} → Accepted t os → LineFramed (line_of t)
+line_framed {t} {os} a =
     record {
       are = a.are;
       long = subst (λ (q : List ℕ). at q 0 + 3 ≡ length q) (sym a.read) a.long;
@@ -60,12 +60,12 @@ line-framed {t} {os} a =
     }
 
 -- the length octet stands first, so no line is the start of another
-no-prefix : (u : List ℕ) (b : ℕ) (v : List ℕ) → LineFramed u → LineFramed (u ++ b ∷ v) → ⊥
-no-prefix [] b v g h = let e = g.long in omega arith
-no-prefix (a ∷ []) b v g h = g.are
-no-prefix (a ∷ c ∷ u) b v g h =
-    let l = pairs-even (a ∷ c ∷ u) g.are in
-    let m = pairs-even (a ∷ c ∷ (u ++ b ∷ v)) h.are in
+no_prefix : (u : List ℕ) (b : ℕ) (v : List ℕ) → LineFramed u → LineFramed (u ++ b ∷ v) → ⊥
+no_prefix [] b v g h = let e = g.long in omega arith
+no_prefix (a ∷ []) b v g h = g.are
+no_prefix (a ∷ c ∷ u) b v g h =
+    let l = pairs_even (a ∷ c ∷ u) g.are in
+    let m = pairs_even (a ∷ c ∷ (u ++ b ∷ v)) h.are in
     omega (arith, g.long, h.long, length-append u (b ∷ v))
 
 -- ---- how one altered byte changes a text's first line: l, l' before and after; r, r' what follows; e whether it has an end afterwards
@@ -104,10 +104,10 @@ detected : {l l' r r' : List ℕ} {e : Bool} → Change l l' r r' e → LineFram
     → (LineFramed l' → ⊥) ⊎ ((e ≡ true) × OneAltered r r')
 detected (inside o) g p =
     inl (λ h. ⊎_elim (λ a. omega (arith, g.adds, h.adds)) (λ a. omega (arith, g.adds, h.adds)) (apart o g.are h.are))
-detected (cut u b v) g p = inl (λ h. no-prefix u b v h g)
+detected (cut u b v) g p = inl (λ h. no_prefix u b v h g)
 detected (joined b {l} {r}) g p =
     let n = length-append l (b ∷ line_of r) in
-    inl (λ h. omega (arith, pairs-even l g.are, pairs-even (line_of r) p, pairs-even (l ++ b ∷ line_of r) h.are, n))
+    inl (λ h. omega (arith, pairs_even l g.are, pairs_even (line_of r) p, pairs_even (l ++ b ∷ line_of r) h.are, n))
 detected (after o) g p = inr (refl, o)
 
 -- ---- all lines of a text
@@ -133,12 +133,12 @@ pairs_first (line a w) = a.are
 caught : {t t' : List ℕ} → Whole t → OneAltered t t' → Refused t'
 caught {t' = t'} (line a w) o =
     ⊎_elim
-    (λ h. refusal h (frame-judged t'))
+    (λ h. refusal h (frame_judged t'))
     (λ p. later (filled o) (caught w p.1))
-    (detected (change o a.end) (line-framed a) (pairs_first w))
+    (detected (change o a.end) (line_framed a) (pairs_first w))
   where
     refusal : (LineFramed (line_of t') → ⊥) → LineJudged t' (frame t') → Refused t'
-    refusal h (accepts f b) = absurd (h (line-framed b))
+    refusal h (accepts f b) = absurd (h (line_framed b))
     refusal h (refuses f l k) = here (filled o) l k f
 
 -- ---- the same, of `lines`
@@ -151,49 +151,49 @@ rest_le (b ∷ t) = go (b == 0x0A) (rest_le t)
     go true h = omega arith
     go false h = omega arith
 
-rest-less : (t : List ℕ) → 0 < length t → length (rest_of t) < length t
-rest-less [] l = absurd (omega arith)
-rest-less (b ∷ t) l = go (b == 0x0A)
+rest_less : (t : List ℕ) → 0 < length t → length (rest_of t) < length t
+rest_less [] l = absurd (omega arith)
+rest_less (b ∷ t) l = go (b == 0x0A)
   where
     go : (x : Bool) → length (cond x t (rest_of t)) < length (b ∷ t)
     go true = omega arith
     go false = let h = rest_le t in omega arith
 
 -- the first line is whole, if all shorter texts are
-whole-first : (n : ℕ) (t : List ℕ) → ((r : List ℕ) → length r ≤ n → wellFramed r ≡ true → Whole r)
-    → length t ≤ suc n → wellFramed t ≡ true → Whole t
-whole-first n [] ih l e = none
-whole-first n (b ∷ t) ih l e =
+whole_first : (n : ℕ) (t : List ℕ) → ((r : List ℕ) → length r ≤ n → well_framed r ≡ true → Whole r)
+    → length t ≤ suc n → well_framed t ≡ true → Whole t
+whole_first n [] ih l e = none
+whole_first n (b ∷ t) ih l e =
     let s : 0 < length (b ∷ t) = omega arith in
-    let r = rest-less (b ∷ t) s in
-    let h = and_cases (isAccepted (frame (b ∷ t))) _ (subst (λ (ls : List Framed). every isAccepted ls ≡ true) (lines_cons (b ∷ t) s) e) in
-    go (frame-judged (b ∷ t)) h.0 (ih (rest_of (b ∷ t)) (omega arith) h.1)
+    let r = rest_less (b ∷ t) s in
+    let h = and_cases (is_accepted (frame (b ∷ t))) _ (subst (λ (ls : List Framed). every is_accepted ls ≡ true) (lines_cons (b ∷ t) s) e) in
+    go (frame_judged (b ∷ t)) h.0 (ih (rest_of (b ∷ t)) (omega arith) h.1)
   where
-    go : LineJudged (b ∷ t) (frame (b ∷ t)) → isAccepted (frame (b ∷ t)) ≡ true → Whole (rest_of (b ∷ t)) → Whole (b ∷ t)
+    go : LineJudged (b ∷ t) (frame (b ∷ t)) → is_accepted (frame (b ∷ t)) ≡ true → Whole (rest_of (b ∷ t)) → Whole (b ∷ t)
     go (accepts f a) h w = line a w
-    go (refuses f j k) h w = absurd (false≢true (sym (ap isAccepted f) ∙ h))
+    go (refuses f j k) h w = absurd (false≢true (sym (ap is_accepted f) ∙ h))
 
-whole : (n : ℕ) (t : List ℕ) → length t ≤ n → wellFramed t ≡ true → Whole t
+whole : (n : ℕ) (t : List ℕ) → length t ≤ n → well_framed t ≡ true → Whole t
 whole zero [] l e = none
 whole zero (b ∷ t) l e = absurd (omega arith)
-whole (suc n) t l e = whole-first n t (whole n) l e
+whole (suc n) t l e = whole_first n t (whole n) l e
 
-refused-line : {t : List ℕ} → Refused t → hasRefusedLine t ≡ true
-refused-line (here {t} {k} s l h f) =
+refused_line_lem : {t : List ℕ} → Refused t → has_refused_line t ≡ true
+refused_line_lem (here {t} {k} s l h f) =
     ap (any is_refused) (lines_cons t s)
-    ∙ ap (λ (x : Framed). is_refused x || hasRefusedLine (rest_of t)) f
+    ∙ ap (λ (x : Framed). is_refused x || has_refused_line (rest_of t)) f
     ∙ rw (le-leb 1 k l, le-leb k 3 h)
-refused-line (later {t} s r) = ap (any is_refused) (lines_cons t s) ∙ or_right (is_refused (frame t)) _ (refused-line r)
+refused_line_lem (later {t} s r) = ap (any is_refused) (lines_cons t s) ∙ or_right (is_refused (frame t)) _ (refused_line_lem r)
 
 -- THE THEOREM
-pub one-altered-byte : (t t' : List ℕ) → wellFramed t ≡ true → OneAltered t t' → hasRefusedLine t' ≡ true
-one-altered-byte t t' w o = refused-line (caught (whole (length t) t (omega arith) w) o)
+pub one_altered_byte : (t t' : List ℕ) → well_framed t ≡ true → OneAltered t t' → has_refused_line t' ≡ true
+one_altered_byte t t' w o = refused_line_lem (caught (whole (length t) t (omega arith) w) o)
 
 -- so that an altered text is never taken for a well framed one
-refused-not-whole : (ls : List Framed) → any is_refused ls ≡ true → every isAccepted ls ≡ false
-refused-not-whole [] e = absurd (false≢true e)
-refused-not-whole (refused k ∷ ls) e = refl
-refused-not-whole (octets os ∷ ls) e = refused-not-whole ls e
+refused_not_whole : (ls : List Framed) → any is_refused ls ≡ true → every is_accepted ls ≡ false
+refused_not_whole [] e = absurd (false≢true e)
+refused_not_whole (refused k ∷ ls) e = refl
+refused_not_whole (octets os ∷ ls) e = refused_not_whole ls e
 
-pub never-well-framed : (t t' : List ℕ) → wellFramed t ≡ true → OneAltered t t' → wellFramed t' ≡ false
-never-well-framed t t' w o = refused-not-whole (lines t') (one-altered-byte t t' w o)
+pub never_well_framed : (t t' : List ℕ) → well_framed t ≡ true → OneAltered t t' → well_framed t' ≡ false
+never_well_framed t t' w o = refused_not_whole (lines t') (one_altered_byte t t' w o)

@@ -1,12 +1,12 @@
 // One line of the format: pairs of digits 0-9 and A-F, each pair an octet, ended by one byte 0A.
 
 ghost use Rattle.std.specs.Prelude.{◌≡◌, ◌+◌, ◌<◌, length, drop};
-ghost use Rattle.octets.specs.Line.{digitValue, frame};
+ghost use Rattle.octets.specs.Line.{digit_value, frame};
 ghost use Rattle.octets.specs.Line as line;
 ghost use Rattle.octets.specs.DigitTable.{IsDigitTable};
-ghost use Rattle.octets.specs.Answers.{lineValues, framedValues, valuesAtEnd};
-ghost use Rattle.octets.specs.Answers.{sizedTotal, sizedAtEnd, totalOfSize, RoomFor, HoldsLine};
-ghost use Rattle.octets.specs.Answers.{octetOf, octetAt, placed, writtenLength, writtenBuffer};
+ghost use Rattle.octets.specs.Answers.{line_values, framed_values, values_at_end};
+ghost use Rattle.octets.specs.Answers.{sized_total, sized_at_end, total_of_size, RoomFor, HoldsLine};
+ghost use Rattle.octets.specs.Answers.{octet_of, octet_at, placed, written_length, written_buffer};
 
 mod digits;
 
@@ -36,14 +36,14 @@ pub fn digit_values() -> [u8; 256]
 // What the table has at a byte.
 pub fn looked_up(digits: &[u8; 256], c: u8) -> u8
     requires { IsDigitTable digits.now }
-    ensures { result ≡ digitValue c }
+    ensures { result ≡ digit_value c }
 {
     digits[c as usize]
 }
 
 // The value of a digit; 16 where the byte is none.
 pub fn digit_value(c: u8) -> u8
-    ensures { result ≡ digitValue c }
+    ensures { result ≡ digit_value c }
 {
     let digits = digit_values();
     looked_up(&digits, c)
@@ -51,7 +51,7 @@ pub fn digit_value(c: u8) -> u8
 
 // What a line is at its end, by its count of octets, the first octet, and the sum of all, modulo 256 and plain.
 fn answer_at_end(count: usize, first: u8, sum: u8, next: usize, total: usize) -> Line
-    ensures { lineValues result ≡ valuesAtEnd count first sum next total }
+    ensures { line_values result ≡ values_at_end count first sum next total }
 {
     if count == 0 {
         return Line::Refused(WRONG_CHARACTERS);
@@ -72,7 +72,7 @@ fn answer_at_end(count: usize, first: u8, sum: u8, next: usize, total: usize) ->
 // Reads the line that starts at an offset of the text. The octets' running sum wraps, and is compared with zero at the line's end.
 // A byte is compared with that end only where it is no digit.
 pub fn read_line(text: &[u8], offset: usize) -> Line
-    ensures { lineValues result ≡ framedValues offset (frame (drop offset text.now)) }
+    ensures { line_values result ≡ framed_values offset (frame (drop offset text.now)) }
 {
     let digits = digit_values();
     let mut i = offset;
@@ -120,7 +120,7 @@ pub enum SizedLine {
 
 // What a line of a size is at its end, by its first octet and the sum of all, modulo 256 and plain.
 fn sized_at_end(size: usize, first: u8, sum: u8, total: usize) -> SizedLine
-    ensures { sizedTotal result ≡ sizedAtEnd size first sum total }
+    ensures { sized_total result ≡ sized_at_end size first sum total }
 {
     if (first as usize) + 3 != size {
         return SizedLine::Other;
@@ -141,7 +141,7 @@ pub fn sized_line(
     octets: &mut [u8; LINE_ROOM],
 ) -> SizedLine
     requires { IsDigitTable digits.now × RoomFor size octets.old }
-    ensures total { sizedTotal result ≡ totalOfSize size (frame (drop offset text.now)) }
+    ensures total { sized_total result ≡ total_of_size size (frame (drop offset text.now)) }
     ensures octets { HoldsLine size (frame (drop offset text.now)) octets.old octets.new }
 {
     if text.len() <= offset || text.len() - offset <= 2 * size {
@@ -172,7 +172,7 @@ pub fn sized_line(
 
 // The octet of two digits; 0 where one of the bytes is no digit.
 fn octet_of(high: u8, low: u8) -> u8
-    ensures { result ≡ octetOf high low }
+    ensures { result ≡ octet_of high low }
 {
     let x = digit_value(high);
     if NO_DIGIT <= x {
@@ -187,7 +187,7 @@ fn octet_of(high: u8, low: u8) -> u8
 
 // The k-th octet of the line that starts at an offset, which `read_line` accepted; 0 where no two digits stand there.
 pub fn octet_at(text: &[u8], offset: usize, k: usize) -> u8
-    ensures { result ≡ octetAt (drop offset text.now) k }
+    ensures { result ≡ octet_at (drop offset text.now) k }
 {
     if text.len() <= offset {
         return 0;
@@ -225,8 +225,8 @@ fn put_octet(buffer: &mut [u8], offset: usize, octet: u8)
 // Writes one line at the start of the buffer, the unwritten rest of a longer one: length, kind, body, check octet, 0A.
 // Returns how many bytes that is. A body of more than 255 octets or too short a buffer gives 0, the buffer untouched.
 pub fn write_line(buffer: &mut [u8], kind: u8, body: &[u8]) -> usize
-    ensures length { result ≡ writtenLength kind body.now buffer.old }
-    ensures buffer { buffer.new ≡ writtenBuffer kind body.now buffer.old }
+    ensures length { result ≡ written_length kind body.now buffer.old }
+    ensures buffer { buffer.new ≡ written_buffer kind body.now buffer.old }
 {
     let n = body.len();
     if 255 < n {

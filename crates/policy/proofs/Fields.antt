@@ -10,8 +10,8 @@ use mir.Val.{Val, bits}
 use denote.Shadow.{shadow}
 use denote.Struct.Field.{uint_field, array_field}
 use borrow.Author.Rules.{elem_fits_field}
-use Rattle.common.specs.Limits.{mostUsers, mostEdges, mostFormulas, mostDemarcations, mostPairs, mostPrincipals, mostExclusions}
-use Rattle.common.specs.Limits.{mostMethods}
+use Rattle.common.specs.Limits.{most_users, most_edges, most_formulas, most_demarcations, most_pairs, most_principals, most_exclusions}
+use Rattle.common.specs.Limits.{most_methods}
 use Rattle.common.specs.Lists.{at}
 use Rattle.policy.specs.declared.Record.{Record}
 use Rattle.policy.specs.Table.{Kind, head, user, edge, formula, demarcation, hierarchy, principal, exclusion, prerequisite, method, end}
@@ -30,35 +30,35 @@ column w n c vs t p = record { long = ap length (sym (map-id c)) ∙ p.1.0.1; lo
 
 pub record Columns (r : Record) : Type 0 where
   pub objects : r.objects < 256
-  pub user-objects : Column w8 mostUsers r.user_objects
-  pub user-roles : Column w16 mostUsers r.user_roles
-  pub labels : Column w8 mostEdges r.edge_labels
-  pub sources : Column w8 mostEdges r.edge_sources
-  pub targets : Column w8 mostEdges r.edge_targets
-  pub ops : Column w8 mostFormulas r.formula_ops
-  pub lefts : Column w8 mostFormulas r.formula_lefts
-  pub rights : Column w8 mostFormulas r.formula_rights
-  pub demarcations : Column w64 mostDemarcations r.demarcation_privileges
-  pub inferiors : Column w8 mostPairs r.inferiors
-  pub superiors : Column w8 mostPairs r.superiors
-  pub formulas : Column w8 mostPrincipals r.principal_formulas
-  pub grants : Column w8 mostPrincipals r.principal_demarcations
-  pub lows : Column w8 mostExclusions r.exclusion_lows
-  pub highs : Column w8 mostExclusions r.exclusion_highs
-  pub needs : Column w8 mostPairs r.prerequisites
-  pub dependents : Column w8 mostPairs r.dependents
-  pub forms : Column w8 mostMethods r.method_forms
-  pub methods : Column w64 mostMethods r.method_privileges
+  pub user_objects_lem : Column w8 most_users r.user_objects
+  pub user_roles_lem : Column w16 most_users r.user_roles
+  pub labels : Column w8 most_edges r.edge_labels
+  pub sources : Column w8 most_edges r.edge_sources
+  pub targets : Column w8 most_edges r.edge_targets
+  pub ops : Column w8 most_formulas r.formula_ops
+  pub lefts : Column w8 most_formulas r.formula_lefts
+  pub rights : Column w8 most_formulas r.formula_rights
+  pub demarcations : Column w64 most_demarcations r.demarcation_privileges
+  pub inferiors : Column w8 most_pairs r.inferiors
+  pub superiors : Column w8 most_pairs r.superiors
+  pub formulas : Column w8 most_principals r.principal_formulas
+  pub grants : Column w8 most_principals r.principal_demarcations
+  pub lows : Column w8 most_exclusions r.exclusion_lows
+  pub highs : Column w8 most_exclusions r.exclusion_highs
+  pub needs : Column w8 most_pairs r.prerequisites
+  pub dependents : Column w8 most_pairs r.dependents
+  pub forms : Column w8 most_methods r.method_forms
+  pub methods : Column w64 most_methods r.method_privileges
 
-one-low : (x : ℕ) → x < 256 → (i : ℕ) → at (x ∷ []) i < 256
-one-low x l zero = l
-one-low x l (suc i) = omega arith
+one_low : (x : ℕ) → x < 256 → (i : ℕ) → at (x ∷ []) i < 256
+one_low x l zero = l
+one_low x l (suc i) = omega arith
 
 pub typed : {r : Record} → Columns r → Typed r
 typed {r} c =
     record {
       sized =
-          sized r (c.user-objects.long, (c.user-roles.long, tt)) (c.labels.long, (c.sources.long, (c.targets.long, tt)))
+          sized r (c.user_objects_lem.long, (c.user_roles_lem.long, tt)) (c.labels.long, (c.sources.long, (c.targets.long, tt)))
           (c.ops.long, (c.lefts.long, (c.rights.long, tt))) (c.demarcations.long, tt) (c.inferiors.long, (c.superiors.long, tt))
           (c.formulas.long, (c.grants.long, tt)) (c.lows.long, (c.highs.long, tt)) (c.needs.long, (c.dependents.long, tt))
           (c.forms.long, (c.methods.long, tt));
@@ -66,8 +66,8 @@ typed {r} c =
     }
   where
     fits : (k : Kind) (i : ℕ) → Fit (widths k) (row k i r)
-    fits head i = (one-low 1 (omega arith) i, (one-low r.objects c.objects i, tt))
-    fits user i = (c.user-objects.low i, (c.user-roles.low i, tt))
+    fits head i = (one_low 1 (omega arith) i, (one_low r.objects c.objects i, tt))
+    fits user i = (c.user_objects_lem.low i, (c.user_roles_lem.low i, tt))
     fits edge i = (c.labels.low i, (c.sources.low i, (c.targets.low i, tt)))
     fits formula i = (c.ops.low i, (c.lefts.low i, (c.rights.low i, tt)))
     fits demarcation i = (c.demarcations.low i, tt)

@@ -6,19 +6,19 @@ use Rattle.policy.specs.Table.{end}
 
 -- by how many of a line's numbers, from the first on, the lines of a kind rise: "02 user: .. Rising by object", "03 edge: .. Rising as a
 -- triple", "06 hierarchy: .. Rising as a pair", "08 exclusion: p, q .. Rising", "09 prerequisite: p, q .. Rising"; the others do not rise
-abbrev pub risingBy : Kind → ℕ
-risingBy head = 0
-risingBy user = 1
-risingBy edge = 3
-risingBy formula = 0
-risingBy demarcation = 0
-risingBy hierarchy = 2
-risingBy principal = 0
-risingBy exclusion = 2
-risingBy prerequisite = 2
-risingBy method = 0
-risingBy end = 0
+abbrev pub rising_by : Kind → ℕ
+rising_by head = 0
+rising_by user = 1
+rising_by edge = 3
+rising_by formula = 0
+rising_by demarcation = 0
+rising_by hierarchy = 2
+rising_by principal = 0
+rising_by exclusion = 2
+rising_by prerequisite = 2
+rising_by method = 0
+rising_by end = 0
 
 -- those numbers of a line
 abbrev pub order_of : Kind → List ℕ → List ℕ
-order_of k v = table (risingBy k) (at v)
+order_of k v = table (rising_by k) (at v)

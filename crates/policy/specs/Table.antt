@@ -1,7 +1,7 @@
 -- The record: every kind of line is a table, a count and a column for each number of the line's body, in the order of the lines.
 use Rattle.std.specs.Prelude.{ℕ, ◌+◌, Bool, false, cond, List, [], ◌∷◌, map, length, set, replicate, eqb}
-use Rattle.common.specs.Limits.{mostUsers, mostEdges, mostFormulas, mostDemarcations, mostPrincipals, mostMethods, mostPairs}
-use Rattle.common.specs.Limits.{mostExclusions, labelCount}
+use Rattle.common.specs.Limits.{most_users, most_edges, most_formulas, most_demarcations, most_principals, most_methods, most_pairs}
+use Rattle.common.specs.Limits.{most_exclusions, label_count}
 use Rattle.common.specs.Lists.{at, table}
 use Rattle.edge_index.specs.declared.EdgeIndex.{EdgeIndex}
 pub use Rattle.edge_index.specs.Index.{column, index_of}
@@ -40,8 +40,8 @@ kind_of c =
     (cond (eqb c 0x0A) method
     end)))))))))
 
-abbrev pub isKind : Kind → Kind → Bool
-isKind j k = eqb (code j) (code k)
+abbrev pub is_kind : Kind → Kind → Bool
+is_kind j k = eqb (code j) (code k)
 
 -- the kinds whose lines the record holds, in the order of the lines
 abbrev pub kinds : List Kind
@@ -92,15 +92,15 @@ widths end = 2 ∷ 4 ∷ []
 -- how many lines the table of a kind has room for
 abbrev pub room : Kind → ℕ
 room head = 1
-room user = mostUsers
-room edge = mostEdges
-room formula = mostFormulas
-room demarcation = mostDemarcations
-room hierarchy = mostPairs
-room principal = mostPrincipals
-room exclusion = mostExclusions
-room prerequisite = mostPairs
-room method = mostMethods
+room user = most_users
+room edge = most_edges
+room formula = most_formulas
+room demarcation = most_demarcations
+room hierarchy = most_pairs
+room principal = most_principals
+room exclusion = most_exclusions
+room prerequisite = most_pairs
+room method = most_methods
 room end = 0
 
 -- the line at a row of a kind's table, as the numbers of its body; all of the lines
@@ -111,18 +111,18 @@ abbrev pub rows : Kind → Record → List (List ℕ)
 rows k r = table (count k r) (λ i. row k i r)
 
 -- the edges of three columns, so many of them
-abbrev pub edgesOf : ℕ → List ℕ → List ℕ → List ℕ → List (List ℕ)
-edgesOf n labels sources targets = table n (λ i. at labels i ∷ at sources i ∷ at targets i ∷ [])
+abbrev pub edges_of : ℕ → List ℕ → List ℕ → List ℕ → List (List ℕ)
+edges_of n labels sources targets = table n (λ i. at labels i ∷ at sources i ∷ at targets i ∷ [])
 
 -- ---- records
 
 -- a memo that knows nothing, for the pair (object, requestor)
 unfoldable pub emptied : ℕ → ℕ → Memo
-emptied o s = record { object = o; requestor = s; known = replicate mostFormulas false; value = replicate mostFormulas false }
+emptied o s = record { object = o; requestor = s; known = replicate most_formulas false; value = replicate most_formulas false }
 
 -- the index of no edges
-unfoldable pub noIndex : EdgeIndex
-noIndex = record { firsts = replicate labelCount 0; counts = replicate labelCount 0; places = replicate mostEdges 0 }
+unfoldable pub no_index : EdgeIndex
+no_index = record { firsts = replicate label_count 0; counts = replicate label_count 0; places = replicate most_edges 0 }
 
 -- the blank record: one object and nothing else
 unfoldable pub blank : Record
@@ -130,49 +130,49 @@ blank =
     record {
       objects = 1;
       user_count = 0;
-      user_objects = replicate mostUsers 0;
-      user_roles = replicate mostUsers 0;
+      user_objects = replicate most_users 0;
+      user_roles = replicate most_users 0;
       edge_count = 0;
-      edge_labels = replicate mostEdges 0;
-      edge_sources = replicate mostEdges 0;
-      edge_targets = replicate mostEdges 0;
+      edge_labels = replicate most_edges 0;
+      edge_sources = replicate most_edges 0;
+      edge_targets = replicate most_edges 0;
       formula_count = 0;
-      formula_ops = replicate mostFormulas 0;
-      formula_lefts = replicate mostFormulas 0;
-      formula_rights = replicate mostFormulas 0;
+      formula_ops = replicate most_formulas 0;
+      formula_lefts = replicate most_formulas 0;
+      formula_rights = replicate most_formulas 0;
       demarcation_count = 0;
-      demarcation_privileges = replicate mostDemarcations 0;
+      demarcation_privileges = replicate most_demarcations 0;
       hierarchy_count = 0;
-      inferiors = replicate mostPairs 0;
-      superiors = replicate mostPairs 0;
+      inferiors = replicate most_pairs 0;
+      superiors = replicate most_pairs 0;
       principal_count = 0;
-      principal_formulas = replicate mostPrincipals 0;
-      principal_demarcations = replicate mostPrincipals 0;
+      principal_formulas = replicate most_principals 0;
+      principal_demarcations = replicate most_principals 0;
       exclusion_count = 0;
-      exclusion_lows = replicate mostExclusions 0;
-      exclusion_highs = replicate mostExclusions 0;
+      exclusion_lows = replicate most_exclusions 0;
+      exclusion_highs = replicate most_exclusions 0;
       prerequisite_count = 0;
-      prerequisites = replicate mostPairs 0;
-      dependents = replicate mostPairs 0;
+      prerequisites = replicate most_pairs 0;
+      dependents = replicate most_pairs 0;
       method_count = 0;
-      method_forms = replicate mostMethods 0;
-      method_privileges = replicate mostMethods 0;
-      index = noIndex;
+      method_forms = replicate most_methods 0;
+      method_privileges = replicate most_methods 0;
+      index = no_index;
       memo = emptied 0 0;
     }
 
 -- a line of kind k is taken: of kind j's table the count is one more, and a column has v at the first unused row; other kinds' tables stay
 abbrev pub more : Kind → Kind → Record → ℕ
-more k j r = cond (isKind k j) (count j r + 1) (count j r)
+more k j r = cond (is_kind k j) (count j r + 1) (count j r)
 
 abbrev pub put : Kind → Kind → Record → List ℕ → ℕ → List ℕ
-put k j r column v = cond (isKind k j) (set column (count j r) v) column
+put k j r column v = cond (is_kind k j) (set column (count j r) v) column
 
 -- the record with one line more, of kind k and with the numbers v
 unfoldable pub appended : Kind → Record → List ℕ → Record
 appended k r v =
     record {
-      objects = cond (isKind k head) (at v 1) r.objects;
+      objects = cond (is_kind k head) (at v 1) r.objects;
       user_count = more k user r;
       user_objects = put k user r r.user_objects (at v 0);
       user_roles = put k user r r.user_roles (at v 1);
@@ -206,8 +206,8 @@ appended k r v =
     }
 
 -- the record with these fields of the edges, this index, and this memo
-abbrev pub withEdges : Record → ℕ → List ℕ → List ℕ → List ℕ → EdgeIndex → Memo → Record
-withEdges r n labels sources targets x m =
+abbrev pub with_edges : Record → ℕ → List ℕ → List ℕ → List ℕ → EdgeIndex → Memo → Record
+with_edges r n labels sources targets x m =
     record {
       objects = r.objects;
       user_count = r.user_count;
@@ -244,15 +244,15 @@ withEdges r n labels sources targets x m =
 
 -- the record with these edges, in this order, their index, and this memo
 unfoldable pub changed : Record → List (List ℕ) → Memo → Record
-changed r es m = withEdges r (length es) (column 0 es) (column 1 es) (column 2 es) (index_of es) m
+changed r es m = with_edges r (length es) (column 0 es) (column 1 es) (column 2 es) (index_of es) m
 
 -- the record with this memo
-unfoldable pub withMemo : Record → Memo → Record
-withMemo r m = withEdges r r.edge_count r.edge_labels r.edge_sources r.edge_targets r.index m
+unfoldable pub with_memo : Record → Memo → Record
+with_memo r m = with_edges r r.edge_count r.edge_labels r.edge_sources r.edge_targets r.index m
 
 -- the record with this index; with that of its own edges, built anew
-unfoldable pub withIndex : Record → EdgeIndex → Record
-withIndex r x = withEdges r r.edge_count r.edge_labels r.edge_sources r.edge_targets x r.memo
+unfoldable pub with_index : Record → EdgeIndex → Record
+with_index r x = with_edges r r.edge_count r.edge_labels r.edge_sources r.edge_targets x r.memo
 
 abbrev pub indexed : Record → Record
-indexed r = withIndex r (index_of (rows edge r))
+indexed r = with_index r (index_of (rows edge r))

@@ -95,7 +95,7 @@ pub fn emptied(object: u8, requestor: u8) -> Memo
 
 // The index of no edges.
 fn no_index() -> EdgeIndex
-    ensures { result ≡ table.noIndex }
+    ensures { result ≡ table.no_index }
 {
     EdgeIndex {
         firsts: [0; LABEL_COUNT],

@@ -3,14 +3,14 @@
 ghost use Rattle.std.specs.Prelude.{◌≡◌, true, ◌||◌};
 ghost use Rattle.closure.specs.Closure.{circular};
 ghost use Rattle.policy.specs.Table.{Kind, rows, hierarchy, prerequisite};
-ghost use Rattle.policy.specs.Loadable.{tableLoads};
+ghost use Rattle.policy.specs.Loadable.{table_loads};
 ghost use Rattle.policy.specs.Typed.{Tests};
 
 use crate::Record;
 
 // Whether the hierarchy or the prerequisites hold a circle, in a record whose tables load.
 pub fn has_circles(rules: Record) -> bool
-    requires { (j : Kind) → tableLoads rules j ≡ true }
+    requires { (j : Kind) → table_loads rules j ≡ true }
     ensures { result ≡ (circular (rows hierarchy rules) || circular (rows prerequisite rules)) }
 {
     let ranks = tables::pairs_circular(

@@ -1,13 +1,13 @@
 // The predicates liberal and strict, and the enabled principals of a record, all evaluated afresh.
 
 ghost use Rattle.std.specs.Prelude.{◌≡◌, true, ℕ, ◌≤◌};
-ghost use Rattle.common.specs.Limits.{mostPrincipals};
+ghost use Rattle.common.specs.Limits.{most_principals};
 ghost use Rattle.common.specs.Lists.{at};
 ghost use Rattle.common.specs.Sets.{In};
 ghost use Rattle.search.specs.Steps.{MetBy};
 ghost use Rattle.policy.specs.Loadable as validity;
 ghost use Rattle.policy.specs.Typed.{Typed};
-ghost use Rattle.justification.specs.Predicates.{isEnabled};
+ghost use Rattle.justification.specs.Predicates.{is_enabled};
 ghost use Rattle.justification.specs.Predicates as spec;
 ghost use Rattle.justification.specs.MarkedSets.{Those};
 
@@ -24,7 +24,7 @@ fn index(x: u8) -> usize
 
 // Those of the first n principals that meet a guard alone.
 fn meeting(n: usize, grants: [u64; MOST_PRINCIPALS], every: bool, wanted: u64) -> u32
-    requires { n ≤ mostPrincipals }
+    requires { n ≤ most_principals }
     ensures { Those n (λ p. MetBy every wanted (at grants p)) result }
 {
     let mut s: u32 = 0;
@@ -40,7 +40,7 @@ fn meeting(n: usize, grants: [u64; MOST_PRINCIPALS], every: bool, wanted: u64) -
 // The enabled principals of those in `among`; no other formula is evaluated.
 pub fn enabled_of(rules: Record, question: Question, among: u32) -> u32
     requires { validity.loadable rules ≡ true }
-    ensures { Those rules.principal_count (λ p. (In p among) × (isEnabled rules question p ≡ true)) result }
+    ensures { Those rules.principal_count (λ p. (In p among) × (is_enabled rules question p ≡ true)) result }
 {
     let n = rules.principal_count;
     let object = question.object;

@@ -7,18 +7,18 @@ use lib.ListN.{set}
 use Rattle.common.specs.Lists.{at}
 use Rattle.policy.specs.declared.Record.{Record}
 use Rattle.policy.specs.Table.{Kind, head, user, edge, formula, demarcation, hierarchy, principal, exclusion, prerequisite, method, end}
-use Rattle.policy.specs.Table.{isKind, count, appended}
+use Rattle.policy.specs.Table.{is_kind, count, appended}
 
 abbrev more : Kind → Kind → ℕ → Record → ℕ
-more k j i r = cond (isKind k j) (i + 1) (count j r)
+more k j i r = cond (is_kind k j) (i + 1) (count j r)
 
 abbrev put : Kind → Kind → ℕ → List ℕ → ℕ → List ℕ
-put k j i column v = cond (isKind k j) (set column i v) column
+put k j i column v = cond (is_kind k j) (set column i v) column
 
-unfoldable pub appendedAt : Kind → ℕ → Record → List ℕ → Record
-appendedAt k i r v =
+unfoldable pub appended_at : Kind → ℕ → Record → List ℕ → Record
+appended_at k i r v =
     record {
-      objects = cond (isKind k head) (at v 1) r.objects;
+      objects = cond (is_kind k head) (at v 1) r.objects;
       user_count = more k user i r;
       user_objects = put k user i r.user_objects (at v 0);
       user_roles = put k user i r.user_roles (at v 1);
@@ -51,16 +51,16 @@ appendedAt k i r v =
       memo = r.memo;
     }
 
-pub appended-at : (k : Kind) (r : Record) (v : List ℕ) → appendedAt k (count k r) r v ≡ appended k r v
-unfolding appendedAt appended
-appended-at head r v = refl
-appended-at user r v = refl
-appended-at edge r v = refl
-appended-at formula r v = refl
-appended-at demarcation r v = refl
-appended-at hierarchy r v = refl
-appended-at principal r v = refl
-appended-at exclusion r v = refl
-appended-at prerequisite r v = refl
-appended-at method r v = refl
-appended-at end r v = refl
+pub appended_at_lem : (k : Kind) (r : Record) (v : List ℕ) → appended_at k (count k r) r v ≡ appended k r v
+unfolding appended_at appended
+appended_at_lem head r v = refl
+appended_at_lem user r v = refl
+appended_at_lem edge r v = refl
+appended_at_lem formula r v = refl
+appended_at_lem demarcation r v = refl
+appended_at_lem hierarchy r v = refl
+appended_at_lem principal r v = refl
+appended_at_lem exclusion r v = refl
+appended_at_lem prerequisite r v = refl
+appended_at_lem method r v = refl
+appended_at_lem end r v = refl

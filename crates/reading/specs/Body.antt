@@ -1,6 +1,6 @@
 -- The bodies of lines as numbers.
 use Rattle.std.specs.Prelude.{ℕ, List, [], ◌∷◌, cond, take, drop, eqb}
-use Rattle.octets.specs.Line.{Framed, refused, octets, kindOctet, body_of}
+use Rattle.octets.specs.Line.{Framed, refused, octets, kind_octet, body_of}
 use Rattle.octets.specs.Number.{number}
 use Rattle.policy.specs.Table.{Kind, code, widths}
 
@@ -17,4 +17,4 @@ numbers k os = values (widths k) (body_of os)
 abbrev pub lines_of : Kind → List Framed → List (List ℕ)
 lines_of k [] = []
 lines_of k (refused n ∷ ls) = lines_of k ls
-lines_of k (octets os ∷ ls) = cond (eqb (kindOctet os) (code k)) (numbers k os ∷ lines_of k ls) (lines_of k ls)
+lines_of k (octets os ∷ ls) = cond (eqb (kind_octet os) (code k)) (numbers k os ∷ lines_of k ls) (lines_of k ls)

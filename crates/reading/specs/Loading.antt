@@ -2,13 +2,13 @@
 use Rattle.std.specs.Prelude.{ℕ, ◌+◌, Bool, not, cond, ◌&&◌, ◌||◌, List, [], ◌∷◌, ◌++◌, length, ltb, eqb}
 use Rattle.common.specs.Lists.{at}
 use Rattle.common.specs.Causes.{cause, first}
-use Rattle.common.specs.Refusals.{wrongKind, wrongEnd}
+use Rattle.common.specs.Refusals.{wrong_kind, wrong_end}
 use Rattle.common.specs.Refusals as refusals
 use Rattle.closure.specs.Closure.{circular}
-use Rattle.octets.specs.Line.{Framed, refused, octets, kindOctet, body_of, total, lines}
+use Rattle.octets.specs.Line.{Framed, refused, octets, kind_octet, body_of, total, lines}
 use Rattle.policy.specs.declared.Record.{Record}
-use Rattle.policy.specs.Table.{Kind, head, hierarchy, prerequisite, end, code, isKind, count, rows, blank, appended, indexed, kind_of}
-use Rattle.policy.specs.Rows.{rowCauses}
+use Rattle.policy.specs.Table.{Kind, head, hierarchy, prerequisite, end, code, is_kind, count, rows, blank, appended, indexed, kind_of}
+use Rattle.policy.specs.Rows.{row_causes}
 use Rattle.reading.specs.declared.Loaded.{Loaded}
 use Rattle.policy.specs.Table.{widths}
 use Rattle.reading.specs.Body.{numbers}
@@ -20,55 +20,55 @@ pub record Reading : Type 0 where
   pub sum : ℕ
   pub rules : Record
 
-abbrev pub atTop : Reading
-atTop = record { lines = 0; last = 0; sum = 0; rules = blank }
+abbrev pub at_top : Reading
+at_top = record { lines = 0; last = 0; sum = 0; rules = blank }
 
 -- a line of kind k: its kind octet is no kind's; it stands after the end; it is a head elsewhere than first, or another kind first;
 -- its kind falls; its body has another length
 unfoldable pub misplaced : Reading → Kind → List ℕ → Bool
 misplaced t k os =
-    not (eqb (kindOctet os) (code k))
+    not (eqb (kind_octet os) (code k))
     || (eqb t.last 0xFF
-    || (not (eqb (cond (isKind k head) 1 0) (cond (eqb t.lines 0) 1 0))
+    || (not (eqb (cond (is_kind k head) 1 0) (cond (eqb t.lines 0) 1 0))
     || (ltb (code k) t.last
     || not (eqb (length (body_of os)) (total (widths k))))))
 
 -- the end line's numbers: the count of earlier lines, the plain sum of all their octets
-unfoldable pub endWrong : Reading → Kind → List ℕ → Bool
-endWrong t k v = isKind k end && not (eqb (at v 0) t.lines && eqb (at v 1) t.sum)
+unfoldable pub end_wrong : Reading → Kind → List ℕ → Bool
+end_wrong t k v = is_kind k end && not (eqb (at v 0) t.lines && eqb (at v 1) t.sum)
 
 -- 4, then 5 to 7, then 8 at an end line (1 to 3 are `frame`'s)
-unfoldable pub lineRefusal : Reading → Kind → List ℕ → ℕ
-lineRefusal t k os =
+unfoldable pub line_refusal : Reading → Kind → List ℕ → ℕ
+line_refusal t k os =
     first
-    (cause wrongKind (misplaced t k os)
-    ∷ (rowCauses k (count k t.rules) t.rules (numbers k os)
-    ++ (cause wrongEnd (endWrong t k (numbers k os)) ∷ [])))
+    (cause wrong_kind (misplaced t k os)
+    ∷ (row_causes k (count k t.rules) t.rules (numbers k os)
+    ++ (cause wrong_end (end_wrong t k (numbers k os)) ∷ [])))
 
 -- one line more was read
-unfoldable pub afterLine : Reading → Kind → List ℕ → Reading
-afterLine t k os =
+unfoldable pub after_line : Reading → Kind → List ℕ → Reading
+after_line t k os =
     record { lines = t.lines + 1; last = code k; sum = t.sum + total os; rules = appended k t.rules (numbers k os) }
 
 -- refused: the number, the line, the blank record
-abbrev pub notLoaded : ℕ → ℕ → Loaded
-notLoaded n line = record { number = n; line = line; rules = blank }
+abbrev pub not_loaded : ℕ → ℕ → Loaded
+not_loaded n line = record { number = n; line = line; rules = blank }
 
 -- all lines passed. 8: the end line is missing (line: one past the last). 9: a circle, in the hierarchy or the prerequisites.
 -- Request 2026-04, "Loading builds this": the record has the index of its edges
-unfoldable pub afterLastLine : Reading → Loaded
-afterLastLine t =
-    cond (not (eqb t.last 0xFF)) (notLoaded wrongEnd (t.lines + 1))
-    (cond (circular (rows hierarchy t.rules) || circular (rows prerequisite t.rules)) (notLoaded refusals.circle t.lines)
+unfoldable pub after_last_line : Reading → Loaded
+after_last_line t =
+    cond (not (eqb t.last 0xFF)) (not_loaded wrong_end (t.lines + 1))
+    (cond (circular (rows hierarchy t.rules) || circular (rows prerequisite t.rules)) (not_loaded refusals.circle t.lines)
     (record { number = 0; line = 0; rules = indexed t.rules }))
 
 unfoldable pub read : Reading → List Framed → Loaded
-read t [] = afterLastLine t
-read t (refused n ∷ ls) = notLoaded n (t.lines + 1)
+read t [] = after_last_line t
+read t (refused n ∷ ls) = not_loaded n (t.lines + 1)
 read t (octets os ∷ ls) =
-    cond (eqb (lineRefusal t (kind_of (kindOctet os)) os) 0)
-    (read (afterLine t (kind_of (kindOctet os)) os) ls)
-    (notLoaded (lineRefusal t (kind_of (kindOctet os)) os) (t.lines + 1))
+    cond (eqb (line_refusal t (kind_of (kind_octet os)) os) 0)
+    (read (after_line t (kind_of (kind_octet os)) os) ls)
+    (not_loaded (line_refusal t (kind_of (kind_octet os)) os) (t.lines + 1))
 
 unfoldable pub load : List ℕ → Loaded
-load text = read atTop (lines text)
+load text = read at_top (lines text)

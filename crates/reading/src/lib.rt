@@ -1,9 +1,9 @@
 // Reading a bundle: the first line, and one reader for the lines of any kind that has a table.
 
 ghost use Rattle.std.specs.Prelude.{◌≡◌, ◌≤◌, ◌<◌, length};
-ghost use Rattle.common.specs.Limits.{mostLines};
+ghost use Rattle.common.specs.Limits.{most_lines};
 ghost use Rattle.policy.specs.Table.{kind_of};
-ghost use Rattle.reading.specs.Stages.{refusedAt, ReadableKind, Ready, Starts, Reads};
+ghost use Rattle.reading.specs.Stages.{refused_at, ReadableKind, Ready, Starts, Reads};
 
 use common::{LINE_ROOM, MOST_FORMULAS};
 use lines::{Bounds, Cursor, Judged, Next};
@@ -26,8 +26,8 @@ pub struct Stage {
 
 // The stage at which the line at the cursor is refused.
 fn stopped(cursor: Cursor, number: u8, rules: Record) -> Stage
-    requires { cursor.lines ≤ mostLines }
-    ensures { result ≡ refusedAt cursor number rules }
+    requires { cursor.lines ≤ most_lines }
+    ensures { result ≡ refused_at cursor number rules }
 {
     let mut stop = cursor;
     stop.number = number;

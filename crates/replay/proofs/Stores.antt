@@ -5,7 +5,7 @@ use mathlib.Core.List.{List, [], ◌∷◌, ◌++◌, append_assoc}
 use native.Mathlib.Omega.{arith}
 use lib.ListN.{length, take, drop, set, length-append, take-append-drop}
 use lib.Seq.{set_at, length-take-le}
-use Rattle.common.specs.ListLaws.{drop-one}
+use Rattle.common.specs.ListLaws.{drop_one}
 
 module _ (b : List ℕ) (n : ℕ) (room : n + 5 ≤ length b) where
   -- one octet more, after the octets os
@@ -13,7 +13,7 @@ module _ (b : List ℕ) (n : ℕ) (room : n + 5 ≤ length b) where
       → set c m v ≡ take n b ++ ((os ++ (v ∷ [])) ++ drop k b)
   next os m k v e f l {c} g =
       let p = take n b in
-      ap (λ (s : List ℕ). set s m v) (g ∙ sym (append_assoc p os (drop m b)) ∙ ap (λ (s : List ℕ). (p ++ os) ++ s) (drop-one b m l))
+      ap (λ (s : List ℕ). set s m v) (g ∙ sym (append_assoc p os (drop m b)) ∙ ap (λ (s : List ℕ). (p ++ os) ++ s) (drop_one b m l))
       ∙ set_at (p ++ os) _ (drop (m + 1) b) v m (omega (arith, length-append p os, length-take-le n b (omega arith)))
       ∙ append_assoc p os (v ∷ drop (m + 1) b)
       ∙ (λ i. p ++ (sym (append_assoc os (v ∷ []) (drop (m + 1) b)) i))

@@ -7,21 +7,21 @@ use Rattle.policy.specs.declared.Memo.{Memo}
 use Rattle.policy.specs.declared.Edited.{Edited}
 use Rattle.policy.specs.Table.{edge, rows, changed}
 use Rattle.policy.specs.Loadable.{loadable}
-use Rattle.policy.specs.Edits.{inserted, without, memoLeft, edited, addRefusal, removeRefusal, added, removed}
-use Rattle.policy.specs.EditLaws.{adds, added-loadable, removes, removed-loadable}
-use Rattle.policy.specs.MemoLaws.{memo-aside}
+use Rattle.policy.specs.Edits.{inserted, without, memo_left, edited, add_refusal, remove_refusal, added, removed}
+use Rattle.policy.specs.EditLaws.{adds, added_loadable, removes, removed_loadable}
+use Rattle.policy.specs.MemoLaws.{memo_aside}
 use Rattle.justification.specs.Justification.{candidates}
-use Rattle.justification.specs.Predicates.{questionRefusal}
-use Rattle.memo.specs.Walk.{Outcome, granted, denied, evaluatedAll, eagerly, walk}
-use Rattle.memo.specs.Memo.{memoFor}
-use Rattle.access.specs.Access.{truthAt, answered, refused, asked, eager, lazy}
-use Rattle.history.specs.Book.{add, remove, askEagerly, askLazily, checkTicket}
-use Rattle.replay.specs.Replay.{ListedCall, call, liberally, strictly, unknown, answerTo}
+use Rattle.justification.specs.Predicates.{question_refusal}
+use Rattle.memo.specs.Walk.{Outcome, granted, denied, evaluated_all, eagerly, walk}
+use Rattle.memo.specs.Memo.{memo_for}
+use Rattle.access.specs.Access.{truth_at, answered, refused, asked, eager, lazy}
+use Rattle.history.specs.Book.{add, remove, askEagerly, askLazily, check_ticket}
+use Rattle.replay.specs.Replay.{ListedCall, call, liberally, strictly, unknown, answer_to}
 
 -- an edit, by its number
-edit-loads : (r : Record) (n : ℕ) (es : List (List ℕ)) (m : Memo)
+edit_loads : (r : Record) (n : ℕ) (es : List (List ℕ)) (m : Memo)
     → ((edited r n es m).number ≡ 0 → loadable (edited r n es m).rules ≡ loadable r) → loadable (edited r n es m).rules ≡ loadable r
-edit-loads r n es m accepted = go (eqb n 0) refl
+edit_loads r n es m accepted = go (eqb n 0) refl
   where
     is : Bool → Edited
     is b = cond b (record { number = 0; rules = changed r es m }) (record { number = n; rules = r })
@@ -30,41 +30,41 @@ edit-loads r n es m accepted = go (eqb n 0) refl
     go true e = accepted (ap (λ (b : Bool). (is b).number) e)
     go false e = ap (λ (b : Bool). loadable (is b).rules) e
 
-add-loads : (r : Record) (l x y : ℕ) → loadable (added r l x y).rules ≡ loadable r
+add_loads : (r : Record) (l x y : ℕ) → loadable (added r l x y).rules ≡ loadable r
 unfolding added
-add-loads r l x y =
-    edit-loads r (addRefusal r l x y) (inserted (l ∷ x ∷ y ∷ []) (rows edge r)) (memoLeft r l)
-    (λ ok. added-loadable r l x y ok ∙ sym (adds r l x y ok).loads)
+add_loads r l x y =
+    edit_loads r (add_refusal r l x y) (inserted (l ∷ x ∷ y ∷ []) (rows edge r)) (memo_left r l)
+    (λ ok. added_loadable r l x y ok ∙ sym (adds r l x y ok).loads)
 
-remove-loads : (r : Record) (l x y : ℕ) → loadable (removed r l x y).rules ≡ loadable r
+remove_loads : (r : Record) (l x y : ℕ) → loadable (removed r l x y).rules ≡ loadable r
 unfolding removed
-remove-loads r l x y =
-    edit-loads r (removeRefusal r l x y) (without (l ∷ x ∷ y ∷ []) (rows edge r)) (memoLeft r l)
-    (λ ok. removed-loadable r l x y ok ∙ sym (removes r l x y ok).loads)
+remove_loads r l x y =
+    edit_loads r (remove_refusal r l x y) (without (l ∷ x ∷ y ∷ []) (rows edge r)) (memo_left r l)
+    (λ ok. removed_loadable r l x y ok ∙ sym (removes r l x y ok).loads)
 
 -- a question
-answered-loads : (r : Record) (before : Memo) (x : Outcome) → loadable (answered r before x).rules ≡ loadable r
+answered_loads : (r : Record) (before : Memo) (x : Outcome) → loadable (answered r before x).rules ≡ loadable r
 unfolding answered
-answered-loads r before (granted c after) = memo-aside r after
-answered-loads r before (denied after) = memo-aside r after
+answered_loads r before (granted c after) = memo_aside r after
+answered_loads r before (denied after) = memo_aside r after
 
-asked-loads : (r : Record) (n : ℕ) (before : Memo) (x : Outcome) → loadable (asked r n (answered r before x)).rules ≡ loadable r
-asked-loads r n before x = go (eqb n 0) refl
+asked_loads : (r : Record) (n : ℕ) (before : Memo) (x : Outcome) → loadable (asked r n (answered r before x)).rules ≡ loadable r
+asked_loads r n before x = go (eqb n 0) refl
   where
     go : (b : Bool) → eqb n 0 ≡ b → loadable (asked r n (answered r before x)).rules ≡ loadable r
-    go true e = ap (λ (b : Bool). loadable (cond b (answered r before x) (refused n r)).rules) e ∙ answered-loads r before x
+    go true e = ap (λ (b : Bool). loadable (cond b (answered r before x) (refused n r)).rules) e ∙ answered_loads r before x
     go false e = ap (λ (b : Bool). loadable (cond b (answered r before x) (refused n r)).rules) e
 
-pub answer-loads : (r : Record) (x : ListedCall) → loadable (answerTo r x).rules ≡ loadable r
-unfolding answerTo eager lazy
-answer-loads r (call (add l x y)) = add-loads r l x y
-answer-loads r (call (remove l x y)) = remove-loads r l x y
-answer-loads r (call (askEagerly q)) =
-    asked-loads r (questionRefusal r q) (memoFor r.memo q)
-    (eagerly r q.method (evaluatedAll (truthAt r q) r (memoFor r.memo q) (below r.principal_count)))
-answer-loads r (call (askLazily q)) =
-    asked-loads r (questionRefusal r q) (memoFor r.memo q) (walk (truthAt r q) r (memoFor r.memo q) (candidates r q.method))
-answer-loads r (call (checkTicket t)) = refl
-answer-loads r (liberally q) = refl
-answer-loads r (strictly q) = refl
-answer-loads r unknown = refl
+pub answer_loads : (r : Record) (x : ListedCall) → loadable (answer_to r x).rules ≡ loadable r
+unfolding answer_to eager lazy
+answer_loads r (call (add l x y)) = add_loads r l x y
+answer_loads r (call (remove l x y)) = remove_loads r l x y
+answer_loads r (call (askEagerly q)) =
+    asked_loads r (question_refusal r q) (memo_for r.memo q)
+    (eagerly r q.method (evaluated_all (truth_at r q) r (memo_for r.memo q) (below r.principal_count)))
+answer_loads r (call (askLazily q)) =
+    asked_loads r (question_refusal r q) (memo_for r.memo q) (walk (truth_at r q) r (memo_for r.memo q) (candidates r q.method))
+answer_loads r (call (check_ticket t)) = refl
+answer_loads r (liberally q) = refl
+answer_loads r (strictly q) = refl
+answer_loads r unknown = refl

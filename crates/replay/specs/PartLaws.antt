@@ -10,21 +10,21 @@ use Rattle.std.proofs.Math.Seq.{drop-append-add, drop-length}
 use Rattle.common.specs.Lists.{at}
 use Rattle.policy.specs.declared.Record.{Record}
 use Rattle.reading.specs.Loading.{load}
-use Rattle.history.specs.Book.{Call, numberAndSet, engineAfter}
+use Rattle.history.specs.Book.{Call, number_and_set, engine_after}
 use Rattle.history.specs.Demand3.{CallHolds}
 use Rattle.octets.specs.Number.{number}
-use Rattle.replay.specs.Replay.{callOctets, callFieldsAt, ListedCall, call, listedCallOf, listedCallAt, answerTo, answerOctets}
-use Rattle.replay.specs.Replay.{leftAfter, replies, answeredCount, bufferAfter}
-use Rattle.replay.specs.AnswerLaws.{whole-fit, answer_at}
-use Rattle.replay.specs.ReplayLaws.{bookCallsOf, callsBefore, left_is, point-holds, point-answers}
-use Rattle.replay.specs.Parts.{Part, countIn, leftAfterParts, partsReplies, partsCalls, partsCount}
-use Rattle.replay.specs.Parts.{recordAt, bookAt, PointHolds, PartsHold}
+use Rattle.replay.specs.Replay.{call_octets, call_fields_at, ListedCall, call, listed_call_of, listed_call_at, answer_to, answer_octets}
+use Rattle.replay.specs.Replay.{left_after, replies, answered_count, buffer_after}
+use Rattle.replay.specs.AnswerLaws.{whole_fit, answer_at_lem}
+use Rattle.replay.specs.ReplayLaws.{book_calls_of, calls_before, left_is, point_holds, point_answers}
+use Rattle.replay.specs.Parts.{Part, count_in, left_after_parts, parts_replies, parts_calls, parts_count}
+use Rattle.replay.specs.Parts.{record_at, book_at, PointHolds, PartsHold}
 
 -- calls with the same octets are the same
-same-octets : (x y : List ℕ) (k l : ℕ) → ((d : ℕ) → d < callOctets → at x (k + d) ≡ at y (l + d))
-    → listedCallOf (callFieldsAt x k) ≡ listedCallOf (callFieldsAt y l)
-same-octets x y k l e =
-    λ j. listedCallOf
+same_octets : (x y : List ℕ) (k l : ℕ) → ((d : ℕ) → d < call_octets → at x (k + d) ≡ at y (l + d))
+    → listed_call_of (call_fields_at x k) ≡ listed_call_of (call_fields_at y l)
+same_octets x y k l e =
+    λ j. listed_call_of
     (record {
       kind = e 0 (omega arith) j;
       first = e 1 (omega arith) j;
@@ -35,99 +35,99 @@ same-octets x y k l e =
 
 -- ---- two parts: a is n whole calls
 
-module _ (a b : List ℕ) (n : ℕ) (whole : length a ≡ callOctets * n) where
-  at_first : (k : ℕ) → k < callOctets * n → at (a ++ b) k ≡ at a k
+module _ (a b : List ℕ) (n : ℕ) (whole : length a ≡ call_octets * n) where
+  at_first : (k : ℕ) → k < call_octets * n → at (a ++ b) k ≡ at a k
   at_first k l = get_or-append a b 0 k (omega arith)
 
-  at-later : (k : ℕ) → at (a ++ b) (callOctets * n + k) ≡ at b k
-  at-later k = ap (λ (m : ℕ). at (a ++ b) (m + k)) (sym whole) ∙ get_or-append-add a b k 0
+  at_later : (k : ℕ) → at (a ++ b) (call_octets * n + k) ≡ at b k
+  at_later k = ap (λ (m : ℕ). at (a ++ b) (m + k)) (sym whole) ∙ get_or-append-add a b k 0
 
   -- the calls of a, then those of b
-  first-call : (i : ℕ) → i < n → listedCallAt (a ++ b) i ≡ listedCallAt a i
-  first-call i l = same-octets (a ++ b) a (callOctets * i) (callOctets * i) (λ d k. at_first (callOctets * i + d) (omega arith))
+  first_call : (i : ℕ) → i < n → listed_call_at (a ++ b) i ≡ listed_call_at a i
+  first_call i l = same_octets (a ++ b) a (call_octets * i) (call_octets * i) (λ d k. at_first (call_octets * i + d) (omega arith))
 
-  later-at : (i k : ℕ) → at (a ++ b) (callOctets * (n + i) + k) ≡ at b (callOctets * i + k)
-  later-at i k =
-      let e : callOctets * (n + i) + k ≡ callOctets * n + (callOctets * i + k) = omega arith in
-      ap (at (a ++ b)) e ∙ at-later (callOctets * i + k)
+  later_at : (i k : ℕ) → at (a ++ b) (call_octets * (n + i) + k) ≡ at b (call_octets * i + k)
+  later_at i k =
+      let e : call_octets * (n + i) + k ≡ call_octets * n + (call_octets * i + k) = omega arith in
+      ap (at (a ++ b)) e ∙ at_later (call_octets * i + k)
 
-  pub later-call : (i : ℕ) → listedCallAt (a ++ b) (n + i) ≡ listedCallAt b i
-  later-call i = same-octets (a ++ b) b (callOctets * (n + i)) (callOctets * i) (λ d k. later-at i d)
+  pub later_call : (i : ℕ) → listed_call_at (a ++ b) (n + i) ≡ listed_call_at b i
+  later_call i = same_octets (a ++ b) b (call_octets * (n + i)) (call_octets * i) (λ d k. later_at i d)
 
-  first-calls : (i : ℕ) → i ≤ n → callsBefore (a ++ b) i ≡ callsBefore a i
-  unfolding callsBefore
-  first-calls zero l = refl
-  first-calls (suc i) l = λ j. first-calls i (omega arith) j ++ bookCallsOf (first-call i (omega arith) j)
+  first_calls : (i : ℕ) → i ≤ n → calls_before (a ++ b) i ≡ calls_before a i
+  unfolding calls_before
+  first_calls zero l = refl
+  first_calls (suc i) l = λ j. first_calls i (omega arith) j ++ book_calls_of (first_call i (omega arith) j)
 
   -- the calls of demand 3 among them: those of a, then those of b
-  pub joined-calls : (m : ℕ) → callsBefore (a ++ b) (n + m) ≡ callsBefore a n ++ callsBefore b m
-  unfolding callsBefore
-  joined-calls zero =
+  pub joined_calls : (m : ℕ) → calls_before (a ++ b) (n + m) ≡ calls_before a n ++ calls_before b m
+  unfolding calls_before
+  joined_calls zero =
       let e : n + 0 ≡ n = omega arith in
-      ap (callsBefore (a ++ b)) e ∙ first-calls n (omega arith) ∙ sym (append-nil (callsBefore a n))
-  joined-calls (suc m) =
+      ap (calls_before (a ++ b)) e ∙ first_calls n (omega arith) ∙ sym (append-nil (calls_before a n))
+  joined_calls (suc m) =
       let e : n + suc m ≡ suc (n + m) = omega arith in
-      ap (callsBefore (a ++ b)) e
-      ∙ (λ j. joined-calls m j ++ bookCallsOf (later-call m j))
-      ∙ append_assoc (callsBefore a n) (callsBefore b m) (bookCallsOf (listedCallAt b m))
+      ap (calls_before (a ++ b)) e
+      ∙ (λ j. joined_calls m j ++ book_calls_of (later_call m j))
+      ∙ append_assoc (calls_before a n) (calls_before b m) (book_calls_of (listed_call_at b m))
 
   module _ (r : Record) where
-    first-left : (i : ℕ) → i ≤ n → leftAfter r (a ++ b) i ≡ leftAfter r a i
-    unfolding leftAfter
-    first-left zero l = refl
-    first-left (suc i) l = λ j. (answerTo (first-left i (omega arith) j) (first-call i (omega arith) j)).rules
+    first_left : (i : ℕ) → i ≤ n → left_after r (a ++ b) i ≡ left_after r a i
+    unfolding left_after
+    first_left zero l = refl
+    first_left (suc i) l = λ j. (answer_to (first_left i (omega arith) j) (first_call i (omega arith) j)).rules
 
-    first-replies : (i : ℕ) → i ≤ n → replies r (a ++ b) i ≡ replies r a i
+    first_replies : (i : ℕ) → i ≤ n → replies r (a ++ b) i ≡ replies r a i
     unfolding replies
-    first-replies zero l = refl
-    first-replies (suc i) l =
-        λ j. first-replies i (omega arith) j ++ answerOctets (answerTo (first-left i (omega arith) j) (first-call i (omega arith) j))
+    first_replies zero l = refl
+    first_replies (suc i) l =
+        λ j. first_replies i (omega arith) j ++ answer_octets (answer_to (first_left i (omega arith) j) (first_call i (omega arith) j))
 
     -- the record: b is answered on the one that a left
-    pub joined-left : (m : ℕ) → leftAfter r (a ++ b) (n + m) ≡ leftAfter (leftAfter r a n) b m
-    unfolding leftAfter
-    joined-left zero = let e : n + 0 ≡ n = omega arith in ap (leftAfter r (a ++ b)) e ∙ first-left n (omega arith)
-    joined-left (suc m) =
+    pub joined_left : (m : ℕ) → left_after r (a ++ b) (n + m) ≡ left_after (left_after r a n) b m
+    unfolding left_after
+    joined_left zero = let e : n + 0 ≡ n = omega arith in ap (left_after r (a ++ b)) e ∙ first_left n (omega arith)
+    joined_left (suc m) =
         let e : n + suc m ≡ suc (n + m) = omega arith in
-        ap (leftAfter r (a ++ b)) e ∙ (λ j. (answerTo (joined-left m j) (later-call m j)).rules)
+        ap (left_after r (a ++ b)) e ∙ (λ j. (answer_to (joined_left m j) (later_call m j)).rules)
 
     -- the answers: those to a, then those to b
-    pub joined-replies : (m : ℕ) → replies r (a ++ b) (n + m) ≡ replies r a n ++ replies (leftAfter r a n) b m
+    pub joined_replies : (m : ℕ) → replies r (a ++ b) (n + m) ≡ replies r a n ++ replies (left_after r a n) b m
     unfolding replies
-    joined-replies zero =
+    joined_replies zero =
         let e : n + 0 ≡ n = omega arith in
-        ap (replies r (a ++ b)) e ∙ first-replies n (omega arith) ∙ sym (append-nil (replies r a n))
-    joined-replies (suc m) =
+        ap (replies r (a ++ b)) e ∙ first_replies n (omega arith) ∙ sym (append-nil (replies r a n))
+    joined_replies (suc m) =
         let e : n + suc m ≡ suc (n + m) = omega arith in
         ap (replies r (a ++ b)) e
-        ∙ (λ j. joined-replies m j ++ answerOctets (answerTo (joined-left m j) (later-call m j)))
-        ∙ append_assoc (replies r a n) (replies (leftAfter r a n) b m) _
+        ∙ (λ j. joined_replies m j ++ answer_octets (answer_to (joined_left m j) (later_call m j)))
+        ∙ append_assoc (replies r a n) (replies (left_after r a n) b m) _
 
     -- the buffers: p has room for the answers to a, and no more
     module _ (p q : List ℕ) (room : length p ≡ 5 * n) where
-      count-first : answeredCount a p ≡ n
-      count-first = omega arith
+      count_first : answered_count a p ≡ n
+      count_first = omega arith
 
-      pub joined-count : answeredCount (a ++ b) (p ++ q) ≡ n + answeredCount b q
-      joined-count = omega (arith, length-append a b, length-append p q)
+      pub joined_count : answered_count (a ++ b) (p ++ q) ≡ n + answered_count b q
+      joined_count = omega (arith, length-append a b, length-append p q)
 
-      pub joined-buffer : bufferAfter r (a ++ b) (p ++ q) ≡ bufferAfter r a p ++ bufferAfter (leftAfter r a n) b q
-      unfolding bufferAfter
-      joined-buffer =
-          let m = answeredCount b q in
-          (λ j. replies r (a ++ b) (joined-count j) ++ drop (5 * joined-count j) (p ++ q))
-          ∙ (λ j. joined-replies m j ++ later j)
-          ∙ append_assoc (replies r a n) (replies (leftAfter r a n) b m) (drop (5 * m) q)
-          ∙ (λ j. sym first j ++ (replies (leftAfter r a n) b m ++ drop (5 * m) q))
+      pub joined_buffer : buffer_after r (a ++ b) (p ++ q) ≡ buffer_after r a p ++ buffer_after (left_after r a n) b q
+      unfolding buffer_after
+      joined_buffer =
+          let m = answered_count b q in
+          (λ j. replies r (a ++ b) (joined_count j) ++ drop (5 * joined_count j) (p ++ q))
+          ∙ (λ j. joined_replies m j ++ later j)
+          ∙ append_assoc (replies r a n) (replies (left_after r a n) b m) (drop (5 * m) q)
+          ∙ (λ j. sym first j ++ (replies (left_after r a n) b m ++ drop (5 * m) q))
         where
-          later : drop (5 * (n + answeredCount b q)) (p ++ q) ≡ drop (5 * answeredCount b q) q
+          later : drop (5 * (n + answered_count b q)) (p ++ q) ≡ drop (5 * answered_count b q) q
           later =
-              let e : 5 * (n + answeredCount b q) ≡ length p + 5 * answeredCount b q = omega arith in
-              ap (λ (k : ℕ). drop k (p ++ q)) e ∙ drop-append-add p q (5 * answeredCount b q)
+              let e : 5 * (n + answered_count b q) ≡ length p + 5 * answered_count b q = omega arith in
+              ap (λ (k : ℕ). drop k (p ++ q)) e ∙ drop-append-add p q (5 * answered_count b q)
 
-          first : replies r a (answeredCount a p) ++ drop (5 * answeredCount a p) p ≡ replies r a n
+          first : replies r a (answered_count a p) ++ drop (5 * answered_count a p) p ≡ replies r a n
           first =
-              (λ j. replies r a (count-first j) ++ drop (5 * count-first j) p)
+              (λ j. replies r a (count_first j) ++ drop (5 * count_first j) p)
               ∙ ap (λ (k : ℕ). replies r a n ++ drop k p) (sym room)
               ∙ ap (λ (os : List ℕ). replies r a n ++ os) (drop-length p)
               ∙ append-nil (replies r a n)
@@ -135,49 +135,49 @@ module _ (a b : List ℕ) (n : ℕ) (whole : length a ≡ callOctets * n) where
 -- ---- any parts
 
 -- the calls that a part answers are whole
-whole-calls : (p : Part) → length (take (callOctets * countIn p) p.calls) ≡ callOctets * countIn p
-whole-calls p = length-take-le (callOctets * countIn p) p.calls (whole-fit (length p.calls) (length p.buffer) (countIn p) refl).0
+whole_calls : (p : Part) → length (take (call_octets * count_in p) p.calls) ≡ call_octets * count_in p
+whole_calls p = length-take-le (call_octets * count_in p) p.calls (whole_fit (length p.calls) (length p.buffer) (count_in p) refl).0
 
 module _ (r : Record) (p : Part) where
   abbrev cut : List ℕ
-  cut = take (callOctets * countIn p) p.calls
+  cut = take (call_octets * count_in p) p.calls
 
   -- what is past them does not matter
-  cut_left : leftAfter r p.calls (countIn p) ≡ leftAfter r cut (countIn p)
+  cut_left : left_after r p.calls (count_in p) ≡ left_after r cut (count_in p)
   cut_left =
-      ap (λ (os : List ℕ). leftAfter r os (countIn p)) (sym (take-append-drop (callOctets * countIn p) p.calls))
-      ∙ first-left cut (drop (callOctets * countIn p) p.calls) (countIn p) (whole-calls p) r (countIn p) (omega arith)
+      ap (λ (os : List ℕ). left_after r os (count_in p)) (sym (take-append-drop (call_octets * count_in p) p.calls))
+      ∙ first_left cut (drop (call_octets * count_in p) p.calls) (count_in p) (whole_calls p) r (count_in p) (omega arith)
 
-  cut-replies : replies r p.calls (countIn p) ≡ replies r cut (countIn p)
-  cut-replies =
-      ap (λ (os : List ℕ). replies r os (countIn p)) (sym (take-append-drop (callOctets * countIn p) p.calls))
-      ∙ first-replies cut (drop (callOctets * countIn p) p.calls) (countIn p) (whole-calls p) r (countIn p) (omega arith)
+  cut_replies : replies r p.calls (count_in p) ≡ replies r cut (count_in p)
+  cut_replies =
+      ap (λ (os : List ℕ). replies r os (count_in p)) (sym (take-append-drop (call_octets * count_in p) p.calls))
+      ∙ first_replies cut (drop (call_octets * count_in p) p.calls) (count_in p) (whole_calls p) r (count_in p) (omega arith)
 
-pub whole_parts : (ps : List Part) → length (partsCalls ps) ≡ callOctets * partsCount ps
-unfolding partsCalls partsCount
+pub whole_parts : (ps : List Part) → length (parts_calls ps) ≡ call_octets * parts_count ps
+unfolding parts_calls parts_count
 whole_parts [] = refl
-whole_parts (p ∷ ps) = omega (arith, length-append (take (callOctets * countIn p) p.calls) (partsCalls ps), whole-calls p, whole_parts ps)
+whole_parts (p ∷ ps) = omega (arith, length-append (take (call_octets * count_in p) p.calls) (parts_calls ps), whole_calls p, whole_parts ps)
 
 -- the parts leave the record, and get the answers, of the one list
-pub parts-left : (r : Record) (ps : List Part) → leftAfterParts r ps ≡ leftAfter r (partsCalls ps) (partsCount ps)
-unfolding leftAfterParts partsCalls partsCount leftAfter
-parts-left r [] = refl
-parts-left r (p ∷ ps) =
-    parts-left (leftAfter r p.calls (countIn p)) ps
-    ∙ ap (λ (x : Record). leftAfter x (partsCalls ps) (partsCount ps)) (cut_left r p)
-    ∙ sym (joined-left (take (callOctets * countIn p) p.calls) (partsCalls ps) (countIn p) (whole-calls p) r (partsCount ps))
+pub parts_left : (r : Record) (ps : List Part) → left_after_parts r ps ≡ left_after r (parts_calls ps) (parts_count ps)
+unfolding left_after_parts parts_calls parts_count left_after
+parts_left r [] = refl
+parts_left r (p ∷ ps) =
+    parts_left (left_after r p.calls (count_in p)) ps
+    ∙ ap (λ (x : Record). left_after x (parts_calls ps) (parts_count ps)) (cut_left r p)
+    ∙ sym (joined_left (take (call_octets * count_in p) p.calls) (parts_calls ps) (count_in p) (whole_calls p) r (parts_count ps))
 
-pub parts-replies : (r : Record) (ps : List Part) → partsReplies r ps ≡ replies r (partsCalls ps) (partsCount ps)
-unfolding partsReplies partsCalls partsCount replies
-parts-replies r [] = refl
-parts-replies r (p ∷ ps) =
-    (λ j. cut-replies r p j ++ (parts-replies (leftAfter r p.calls (countIn p)) ps
-    ∙ ap (λ (x : Record). replies x (partsCalls ps) (partsCount ps)) (cut_left r p)) j)
-    ∙ sym (joined-replies (take (callOctets * countIn p) p.calls) (partsCalls ps) (countIn p) (whole-calls p) r (partsCount ps))
+pub parts_replies_lem : (r : Record) (ps : List Part) → parts_replies r ps ≡ replies r (parts_calls ps) (parts_count ps)
+unfolding parts_replies parts_calls parts_count replies
+parts_replies_lem r [] = refl
+parts_replies_lem r (p ∷ ps) =
+    (λ j. cut_replies r p j ++ (parts_replies_lem (left_after r p.calls (count_in p)) ps
+    ∙ ap (λ (x : Record). replies x (parts_calls ps) (parts_count ps)) (cut_left r p)) j)
+    ∙ sym (joined_replies (take (call_octets * count_in p) p.calls) (parts_calls ps) (count_in p) (whole_calls p) r (parts_count ps))
 
 -- the record left is the engine's after all calls of the parts
-pub parts-engine : (r : Record) (ps : List Part) → leftAfterParts r ps ≡ engineAfter r (callsBefore (partsCalls ps) (partsCount ps))
-parts-engine r ps = parts-left r ps ∙ left_is r (partsCalls ps) (partsCount ps)
+pub parts_engine : (r : Record) (ps : List Part) → left_after_parts r ps ≡ engine_after r (calls_before (parts_calls ps) (parts_count ps))
+parts_engine r ps = parts_left r ps ∙ left_is r (parts_calls ps) (parts_count ps)
 
 -- ---- a record just loaded: demand 3 holds of any parts
 
@@ -187,28 +187,28 @@ module _ (text : List ℕ) (loads : (load text).number ≡ 0) (ps : List Part) w
 
   module _ (p : Part) (i : ℕ) where
     -- that point in the one list
-    same-record : leftAfter b (partsCalls ps ++ p.calls) (partsCount ps + i) ≡ recordAt text loads ps p i
-    same-record =
-        joined-left (partsCalls ps) p.calls (partsCount ps) (whole_parts ps) b i
-        ∙ ap (λ (x : Record). leftAfter x p.calls i) (sym (parts-left b ps))
+    same_record_lem : left_after b (parts_calls ps ++ p.calls) (parts_count ps + i) ≡ record_at text loads ps p i
+    same_record_lem =
+        joined_left (parts_calls ps) p.calls (parts_count ps) (whole_parts ps) b i
+        ∙ ap (λ (x : Record). left_after x p.calls i) (sym (parts_left b ps))
 
-    same-call : listedCallAt (partsCalls ps ++ p.calls) (partsCount ps + i) ≡ listedCallAt p.calls i
-    same-call = later-call (partsCalls ps) p.calls (partsCount ps) (whole_parts ps) i
+    same_call : listed_call_at (parts_calls ps ++ p.calls) (parts_count ps + i) ≡ listed_call_at p.calls i
+    same_call = later_call (parts_calls ps) p.calls (parts_count ps) (whole_parts ps) i
 
-    point : i < countIn p → (c : Call) → listedCallAt p.calls i ≡ call c
-        → PointHolds text loads ps p i c (bufferAfter (leftAfterParts b ps) p.calls p.buffer)
+    point : i < count_in p → (c : Call) → listed_call_at p.calls i ≡ call c
+        → PointHolds text loads ps p i c (buffer_after (left_after_parts b ps) p.calls p.buffer)
     point l c e =
-        let one = partsCalls ps ++ p.calls in
-        let n = partsCount ps + i in
+        let one = parts_calls ps ++ p.calls in
+        let n = parts_count ps + i in
         record {
-          holds = subst (λ (x : Record). CallHolds b (bookAt text loads ps p i) x c) same-record (point-holds text loads one n c);
+          holds = subst (λ (x : Record). CallHolds b (book_at text loads ps p i) x c) same_record_lem (point_holds text loads one n c);
           answers =
-              (λ j. numberAndSet (answerTo (sym same-record j) (sym (same-call ∙ e) j)))
-              ∙ point-answers text loads one n c (same-call ∙ e);
+              (λ j. number_and_set (answer_to (sym same_record_lem j) (sym (same_call ∙ e) j)))
+              ∙ point_answers text loads one n c (same_call ∙ e);
           octets =
-              answer_at (leftAfterParts b ps) p.calls p.buffer i l
-              ∙ ap (λ (x : ListedCall). answerOctets (answerTo (recordAt text loads ps p i) x)) e;
+              answer_at_lem (left_after_parts b ps) p.calls p.buffer i l
+              ∙ ap (λ (x : ListedCall). answer_octets (answer_to (record_at text loads ps p i) x)) e;
         }
 
-  pub parts-hold : PartsHold text loads ps
-  parts-hold = record { left = parts-engine b ps; next = point }
+  pub parts_hold : PartsHold text loads ps
+  parts_hold = record { left = parts_engine b ps; next = point }

@@ -5,70 +5,70 @@ use Rattle.std.proofs.Common.{sym, ◌∙◌, ap, subst, arith}
 use Rattle.policy.specs.declared.Record.{Record}
 use Rattle.reading.specs.Loading.{load}
 use Rattle.tickets.specs.declared.Ticket.{Ticket}
-use Rattle.history.specs.Book.{Call, add, remove, askEagerly, askLazily, checkTicket, Book, plain, firstBook}
-use Rattle.history.specs.Book.{bookAnswer, bookAfter, numberAndSet, engineLeaves, engineAfter}
+use Rattle.history.specs.Book.{Call, add, remove, askEagerly, askLazily, check_ticket, Book, plain, first_book}
+use Rattle.history.specs.Book.{book_answer, book_after, number_and_set, engine_leaves, engine_after}
 use Rattle.history.specs.Agrees.{Agrees}
-use Rattle.history.specs.EditAgrees.{add-number, remove-number}
-use Rattle.history.specs.AskAgrees.{eager-answer, lazy-answer, check-number}
+use Rattle.history.specs.EditAgrees.{add_number_lem, remove_number_lem}
+use Rattle.history.specs.AskAgrees.{eager_answer, lazy_answer, check_number}
 use Rattle.history.specs.Demand3.{CallHolds}
-use Rattle.history.specs.Theorem.{call-holds, list-agrees, start}
-use Rattle.replay.specs.Replay.{ListedCall, call, liberally, strictly, unknown, answerTo, listedCallAt, leftAfter}
+use Rattle.history.specs.Theorem.{call_holds, list_agrees, start}
+use Rattle.replay.specs.Replay.{ListedCall, call, liberally, strictly, unknown, answer_to, listed_call_at, left_after}
 
 -- the call of demand 3 that a listed call is; a predicate and an unknown kind are none
-abbrev pub bookCallsOf : ListedCall → List Call
-bookCallsOf (call c) = c ∷ []
-bookCallsOf (liberally q) = []
-bookCallsOf (strictly q) = []
-bookCallsOf unknown = []
+abbrev pub book_calls_of : ListedCall → List Call
+book_calls_of (call c) = c ∷ []
+book_calls_of (liberally q) = []
+book_calls_of (strictly q) = []
+book_calls_of unknown = []
 
 -- those among the first n listed calls, in order
-unfoldable pub callsBefore : List ℕ → ℕ → List Call
-callsBefore calls zero = []
-callsBefore calls (suc n) = callsBefore calls n ++ bookCallsOf (listedCallAt calls n)
+unfoldable pub calls_before : List ℕ → ℕ → List Call
+calls_before calls zero = []
+calls_before calls (suc n) = calls_before calls n ++ book_calls_of (listed_call_at calls n)
 
-after-append : (r : Record) (cs ds : List Call) → engineAfter r (cs ++ ds) ≡ engineAfter (engineAfter r cs) ds
-unfolding engineAfter
-after-append r [] ds = refl
-after-append r (c ∷ cs) ds = after-append (engineLeaves r c) cs ds
+after_append : (r : Record) (cs ds : List Call) → engine_after r (cs ++ ds) ≡ engine_after (engine_after r cs) ds
+unfolding engine_after
+after_append r [] ds = refl
+after_append r (c ∷ cs) ds = after_append (engine_leaves r c) cs ds
 
-leaves : (r : Record) (x : ListedCall) → (answerTo r x).rules ≡ engineAfter r (bookCallsOf x)
-unfolding answerTo engineAfter engineLeaves
+leaves : (r : Record) (x : ListedCall) → (answer_to r x).rules ≡ engine_after r (book_calls_of x)
+unfolding answer_to engine_after engine_leaves
 leaves r (call (add l x y)) = refl
 leaves r (call (remove l x y)) = refl
 leaves r (call (askEagerly q)) = refl
 leaves r (call (askLazily q)) = refl
-leaves r (call (checkTicket t)) = refl
+leaves r (call (check_ticket t)) = refl
 leaves r (liberally q) = refl
 leaves r (strictly q) = refl
 leaves r unknown = refl
 
 -- the record left is the engine's after those calls
-pub left_is : (r : Record) (calls : List ℕ) (n : ℕ) → leftAfter r calls n ≡ engineAfter r (callsBefore calls n)
-unfolding leftAfter callsBefore engineAfter
+pub left_is : (r : Record) (calls : List ℕ) (n : ℕ) → left_after r calls n ≡ engine_after r (calls_before calls n)
+unfolding left_after calls_before engine_after
 left_is r calls zero = refl
 left_is r calls (suc n) =
-    leaves (leftAfter r calls n) (listedCallAt calls n)
-    ∙ ap (λ (x : Record). engineAfter x (bookCallsOf (listedCallAt calls n))) (left_is r calls n)
-    ∙ sym (after-append r (callsBefore calls n) (bookCallsOf (listedCallAt calls n)))
+    leaves (left_after r calls n) (listed_call_at calls n)
+    ∙ ap (λ (x : Record). engine_after x (book_calls_of (listed_call_at calls n))) (left_is r calls n)
+    ∙ sym (after_append r (calls_before calls n) (book_calls_of (listed_call_at calls n)))
 
 -- tickets alone leave the record, memo included
-pub tickets-leave : (r : Record) (calls : List ℕ) (n : ℕ)
-    → ((i : ℕ) → i < n → (t : Ticket) × (listedCallAt calls i ≡ call (checkTicket t))) → leftAfter r calls n ≡ r
-unfolding leftAfter answerTo
-tickets-leave r calls zero all = refl
-tickets-leave r calls (suc n) all =
+pub tickets_leave : (r : Record) (calls : List ℕ) (n : ℕ)
+    → ((i : ℕ) → i < n → (t : Ticket) × (listed_call_at calls i ≡ call (check_ticket t))) → left_after r calls n ≡ r
+unfolding left_after answer_to
+tickets_leave r calls zero all = refl
+tickets_leave r calls (suc n) all =
     let (t, e) = all n (omega arith) in
-    ap (λ (x : ListedCall). (answerTo (leftAfter r calls n) x).rules) e ∙ tickets-leave r calls n (λ i l. all i (omega arith))
+    ap (λ (x : ListedCall). (answer_to (left_after r calls n) x).rules) e ∙ tickets_leave r calls n (λ i l. all i (omega arith))
 
 -- the book's reply is answered
-answer-is : (b : Record) (book : Book) (r : Record) → Agrees b book r → (c : Call)
-    → numberAndSet (answerTo r (call c)) ≡ bookAnswer b book c
-unfolding answerTo bookAnswer
-answer-is b book r h (add l x y) = ap (λ (k : ℕ). plain k) (add-number b book r h l x y)
-answer-is b book r h (remove l x y) = ap (λ (k : ℕ). plain k) (remove-number b book r h l x y)
-answer-is b book r h (askEagerly q) = eager-answer b book r h q
-answer-is b book r h (askLazily q) = lazy-answer b book r h q
-answer-is b book r h (checkTicket t) = ap (λ (k : ℕ). plain k) (check-number b book r h t)
+answer_is : (b : Record) (book : Book) (r : Record) → Agrees b book r → (c : Call)
+    → number_and_set (answer_to r (call c)) ≡ book_answer b book c
+unfolding answer_to book_answer
+answer_is b book r h (add l x y) = ap (λ (k : ℕ). plain k) (add_number_lem b book r h l x y)
+answer_is b book r h (remove l x y) = ap (λ (k : ℕ). plain k) (remove_number_lem b book r h l x y)
+answer_is b book r h (askEagerly q) = eager_answer b book r h q
+answer_is b book r h (askLazily q) = lazy_answer b book r h q
+answer_is b book r h (check_ticket t) = ap (λ (k : ℕ). plain k) (check_number b book r h t)
 
 -- ---- a record just loaded, and any octets of calls
 
@@ -77,17 +77,17 @@ module _ (text : List ℕ) (loads : (load text).number ≡ 0) (calls : List ℕ)
   b = (load text).rules
 
   abbrev pub book : Book
-  book = bookAfter b (firstBook text) (callsBefore calls n)
+  book = book_after b (first_book text) (calls_before calls n)
 
-  agrees : Agrees b book (leftAfter b calls n)
-  agrees = subst (Agrees b book) (sym (left_is b calls n)) (list-agrees b (callsBefore calls n) (firstBook text) b (start text loads))
+  agrees : Agrees b book (left_after b calls n)
+  agrees = subst (Agrees b book) (sym (left_is b calls n)) (list_agrees b (calls_before calls n) (first_book text) b (start text loads))
 
   -- what demand 3 says of any call put at that point
-  pub point-holds : (c : Call) → CallHolds b book (leftAfter b calls n) c
-  point-holds c = call-holds b book (leftAfter b calls n) agrees c
+  pub point_holds : (c : Call) → CallHolds b book (left_after b calls n) c
+  point_holds c = call_holds b book (left_after b calls n) agrees c
 
   -- and its answer's number and set are the book's
-  pub point-answers : (c : Call) → listedCallAt calls n ≡ call c
-      → numberAndSet (answerTo (leftAfter b calls n) (listedCallAt calls n)) ≡ bookAnswer b book c
-  point-answers c e =
-      ap (λ (x : ListedCall). numberAndSet (answerTo (leftAfter b calls n) x)) e ∙ answer-is b book (leftAfter b calls n) agrees c
+  pub point_answers : (c : Call) → listed_call_at calls n ≡ call c
+      → number_and_set (answer_to (left_after b calls n) (listed_call_at calls n)) ≡ book_answer b book c
+  point_answers c e =
+      ap (λ (x : ListedCall). number_and_set (answer_to (left_after b calls n) x)) e ∙ answer_is b book (left_after b calls n) agrees c

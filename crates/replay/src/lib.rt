@@ -2,14 +2,14 @@
 // lists stands in specs/.
 
 ghost use Rattle.std.specs.Prelude.{◌≡◌, [], ◌∷◌, ◌++◌, ℕ, ◌+◌, ◌/◌, ◌≤◌, min, length, take, drop};
-ghost use Rattle.octets.specs.Number.{number, inOctets};
+ghost use Rattle.octets.specs.Number.{number, in_octets};
 ghost use Rattle.policy.specs.declared.Record as records;
 ghost use Rattle.policy.specs.Loadable as validity;
 ghost use Rattle.policy.specs.Typed.{Typed};
 ghost use Rattle.access.specs.Access.{leaves};
-ghost use Rattle.replay.specs.Replay.{callOctets, callFieldsAt, questionOf, listedCallOf};
-ghost use Rattle.replay.specs.Replay.{numberAnswer, editAnswer, verdictAnswer, answerTo};
-ghost use Rattle.replay.specs.Replay.{answeredCount, bufferAfter, replayed};
+ghost use Rattle.replay.specs.Replay.{call_octets, call_fields_at, question_of, listed_call_of};
+ghost use Rattle.replay.specs.Replay.{number_answer, edit_answer, verdict_answer, answer_to};
+ghost use Rattle.replay.specs.Replay.{answered_count, buffer_after, replayed};
 
 use access::{Answer, Decision};
 use justification::{Question, Verdict};
@@ -40,8 +40,8 @@ fn number_of(a: u8, b: u8, c: u8, d: u8) -> u32
 
 // The call whose octets begin at a place.
 fn call_at(calls: &[u8], place: usize) -> CallFields
-    requires { place + callOctets ≤ length calls.now }
-    ensures { result ≡ callFieldsAt calls.now place }
+    requires { place + call_octets ≤ length calls.now }
+    ensures { result ≡ call_fields_at calls.now place }
 {
     let set = number_of(
         calls[place + 4],
@@ -60,7 +60,7 @@ fn call_at(calls: &[u8], place: usize) -> CallFields
 
 // An edit's answer, from its number and the record that it leaves: no set, no evaluation.
 fn edit_answer(number: u8, rules: Record) -> Answer
-    ensures { result ≡ editAnswer (record { number = number; rules = rules }) }
+    ensures { result ≡ edit_answer (record { number = number; rules = rules }) }
 {
     Answer {
         number: number,
@@ -72,7 +72,7 @@ fn edit_answer(number: u8, rules: Record) -> Answer
 
 // What a predicate comes to: 1 for yes; the memo stays.
 fn verdict_decision(memo: Memo, verdict: Verdict) -> Decision
-    ensures { (rules : records.Record) → memo ≡ rules.memo → leaves rules result ≡ verdictAnswer rules verdict }
+    ensures { (rules : records.Record) → memo ≡ rules.memo → leaves rules result ≡ verdict_answer rules verdict }
 {
     if verdict.yes {
         return Decision {
@@ -92,7 +92,7 @@ fn verdict_decision(memo: Memo, verdict: Verdict) -> Decision
 
 // What a number alone comes to: no set, no evaluation; the memo stays.
 fn number_decision(memo: Memo, number: u8) -> Decision
-    ensures { (rules : records.Record) → memo ≡ rules.memo → leaves rules result ≡ numberAnswer rules number }
+    ensures { (rules : records.Record) → memo ≡ rules.memo → leaves rules result ≡ number_answer rules number }
 {
     Decision {
         number: number,
@@ -104,7 +104,7 @@ fn number_decision(memo: Memo, number: u8) -> Decision
 
 // The question of a call: method, object, requestor.
 fn question_of(call: CallFields) -> Question
-    ensures { result ≡ questionOf call }
+    ensures { result ≡ question_of call }
 {
     Question {
         method: call.first,
@@ -115,7 +115,7 @@ fn question_of(call: CallFields) -> Question
 
 // Answers one call: 0 add, 1 remove, 2 eager, 3 lazy, 4 liberal, 5 strict, 6 ticket; a kind above 6 is answered with 4.
 pub fn answer(rules: Record, call: CallFields) -> Answer
-    ensures { (result ≡ answerTo rules (listedCallOf call)) × Typed rules }
+    ensures { (result ≡ answer_to rules (listed_call_of call)) × Typed rules }
 {
     let loads = policy::loadable::loadable(rules);
     answer_given(rules, loads, call)
@@ -124,7 +124,7 @@ pub fn answer(rules: Record, call: CallFields) -> Answer
 // The same, where it is known whether some bundle loads to the record.
 fn answer_given(rules: Record, loads: bool, call: CallFields) -> Answer
     requires { loads ≡ validity.loadable rules }
-    ensures { result ≡ answerTo rules (listedCallOf call) }
+    ensures { result ≡ answer_to rules (listed_call_of call) }
 {
     let kind = call.kind;
     match kind {
@@ -157,7 +157,7 @@ fn answer_given(rules: Record, loads: bool, call: CallFields) -> Answer
 // What a call comes to that is no edit: 2 eager, 3 lazy, 4 liberal, 5 strict, 6 ticket; a kind above 6 is answered with 4.
 fn decision_of(rules: Record, loads: bool, call: CallFields) -> Decision
     requires { (loads ≡ validity.loadable rules) × (2 ≤ call.kind) }
-    ensures { leaves rules result ≡ answerTo rules (listedCallOf call) }
+    ensures { leaves rules result ≡ answer_to rules (listed_call_of call) }
 {
     let question = question_of(call);
     let memo = rules.memo;
@@ -180,7 +180,7 @@ fn decision_of(rules: Record, loads: bool, call: CallFields) -> Decision
 
 // How many calls are whole in the calls and have room in the answers.
 fn answerable(calls: usize, answers: usize) -> usize
-    ensures { result ≡ min (calls / callOctets) (answers / 5) }
+    ensures { result ≡ min (calls / call_octets) (answers / 5) }
 {
     let whole = calls / CALL_OCTETS;
     let room = answers / ANSWER_OCTETS;
@@ -195,7 +195,7 @@ fn put_answer(answers: &mut [u8], place: usize, number: u8, set: u32, evaluation
     requires { place + 5 ≤ length answers.old }
     ensures { answers.new
         ≡ take place answers.old ++
-        (((number ∷ []) ++ (inOctets 3 set ++ (evaluations ∷ []))) ++ drop (place + 5) answers.old) }
+        (((number ∷ []) ++ (in_octets 3 set ++ (evaluations ∷ []))) ++ drop (place + 5) answers.old) }
 {
     answers[place] = number;
     answers[place + 1] = (set / 256 / 256 % 256) as u8;
@@ -214,7 +214,7 @@ pub struct Replayed {
 // Answers the calls in turn. No call changes whether some bundle loads to the record: one test does for all.
 pub fn answer_all(mut rules: Record, calls: &[u8], answers: &mut [u8]) -> Replayed
     ensures { (result ≡ replayed rules calls.now answers.old)
-        × (answers.new ≡ bufferAfter rules calls.now answers.old) × Typed rules }
+        × (answers.new ≡ buffer_after rules calls.now answers.old) × Typed rules }
 {
     let n = answerable(calls.len(), answers.len());
     let loads = policy::loadable::loadable(rules);
@@ -263,8 +263,8 @@ pub fn answer_all(mut rules: Record, calls: &[u8], answers: &mut [u8]) -> Replay
 
 // Answers the calls in turn, and returns how many.
 pub fn replay(rules: Record, calls: &[u8], answers: &mut [u8]) -> usize
-    ensures { (result ≡ answeredCount calls.now answers.old)
-        × (answers.new ≡ bufferAfter rules calls.now answers.old) × Typed rules }
+    ensures { (result ≡ answered_count calls.now answers.old)
+        × (answers.new ≡ buffer_after rules calls.now answers.old) × Typed rules }
 {
     let all = answer_all(rules, calls, answers);
     all.count

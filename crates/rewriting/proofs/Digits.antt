@@ -5,7 +5,7 @@ use mathlib.Core.List.{List, [], ◌∷◌, ◌++◌}
 use native.Mathlib.Omega.{arith}
 use lib.ListN.{length, take}
 use borrow.Author.Tests.{lt-ltb, le-ltb}
-use Rattle.rewriting.specs.Program.{decimals, refusedStart, refusedText}
+use Rattle.rewriting.specs.Program.{decimals, refused_start, refused_text}
 
 only : (d n : ℕ) → n < 10 → decimals (suc d) n ≡ (48 + n) ∷ []
 only d n l = rw (lt-ltb n 10 l)
@@ -17,33 +17,33 @@ more : (d n : ℕ) {ds : List ℕ} → 10 ≤ n → decimals d (n / 10) ≡ ds �
 more d n l e = rw (le-ltb n 10 l) (ap (λ (ds : List ℕ). ds ++ ((48 + n % 10) ∷ [])) e)
 
 module _ (n : ℕ) where
-  pub one-digit : n < 10 → decimals 5 n ≡ (48 + n % 10) ∷ []
-  one-digit l = last 4 n l
+  pub one_digit : n < 10 → decimals 5 n ≡ (48 + n % 10) ∷ []
+  one_digit l = last 4 n l
 
   module _ (l₁ : 10 ≤ n) where
     pub two_digits : n / 10 < 10 → decimals 5 n ≡ (48 + n / 10 % 10) ∷ (48 + n % 10) ∷ []
     two_digits l = more 4 n l₁ (last 3 (n / 10) l)
 
     module _ (l₂ : 10 ≤ n / 10) where
-      pub three-digits : n / 10 / 10 < 10 → decimals 5 n ≡ (48 + n / 10 / 10 % 10) ∷ (48 + n / 10 % 10) ∷ (48 + n % 10) ∷ []
-      three-digits l = more 4 n l₁ (more 3 (n / 10) l₂ (last 2 (n / 10 / 10) l))
+      pub three_digits : n / 10 / 10 < 10 → decimals 5 n ≡ (48 + n / 10 / 10 % 10) ∷ (48 + n / 10 % 10) ∷ (48 + n % 10) ∷ []
+      three_digits l = more 4 n l₁ (more 3 (n / 10) l₂ (last 2 (n / 10 / 10) l))
 
       module _ (l₃ : 10 ≤ n / 10 / 10) where
-        pub four-digits : n / 10 / 10 / 10 < 10
+        pub four_digits : n / 10 / 10 / 10 < 10
             → decimals 5 n ≡ (48 + n / 10 / 10 / 10 % 10) ∷ (48 + n / 10 / 10 % 10) ∷ (48 + n / 10 % 10) ∷ (48 + n % 10) ∷ []
-        four-digits l = more 4 n l₁ (more 3 (n / 10) l₂ (more 2 (n / 10 / 10) l₃ (last 1 (n / 10 / 10 / 10) l)))
+        four_digits l = more 4 n l₁ (more 3 (n / 10) l₂ (more 2 (n / 10 / 10) l₃ (last 1 (n / 10 / 10 / 10) l)))
 
-        pub five-digits : 10 ≤ n / 10 / 10 / 10 → n < 100000
+        pub five_digits : 10 ≤ n / 10 / 10 / 10 → n < 100000
             → decimals 5 n
             ≡ (48 + n / 10 / 10 / 10 / 10) ∷ (48 + n / 10 / 10 / 10 % 10) ∷ (48 + n / 10 / 10 % 10) ∷ (48 + n / 10 % 10) ∷ (48 + n % 10) ∷
             []
-        five-digits l₄ l =
+        five_digits l₄ l =
             more 4 n l₁
             (more 3 (n / 10) l₂ (more 2 (n / 10 / 10) l₃ (more 1 (n / 10 / 10 / 10) l₄ (only 0 (n / 10 / 10 / 10 / 10) (omega arith)))))
 
-pub refused-text : (number line : ℕ) {ds : List ℕ} → number < 10 → decimals 5 line ≡ ds
-    → refusedStart (48 + number) (ds ++ (10 ∷ [])) ≡ refusedText number line
-refused-text number line l e = λ j. 82 ∷ 69 ∷ 70 ∷ 85 ∷ 83 ∷ 69 ∷ 68 ∷ 32 ∷ (sym (only 0 number l) j ++ (32 ∷ (sym e j ++ (10 ∷ []))))
+pub refused_text_lem : (number line : ℕ) {ds : List ℕ} → number < 10 → decimals 5 line ≡ ds
+    → refused_start (48 + number) (ds ++ (10 ∷ [])) ≡ refused_text number line
+refused_text_lem number line l e = λ j. 82 ∷ 69 ∷ 70 ∷ 85 ∷ 83 ∷ 69 ∷ 68 ∷ 32 ∷ (sym (only 0 number l) j ++ (32 ∷ (sym e j ++ (10 ∷ []))))
 
 -- the bytes of which so many count
 pub counted : {bytes start text : List ℕ} {size n : ℕ} → (bytes ≡ start) × (size ≡ n) → take n start ≡ text → n ≤ length start

@@ -8,7 +8,7 @@ use lib.ListN.{length, take, drop, set, length-append, length-drop}
 use lib.Seq.{length-take-le, take-suc, drop-cons, set-append_seam, append_snoc}
 use borrow.Author.Tests.{le-leb, lt-leb}
 use Rattle.common.specs.Lists.{at}
-use Rattle.rewriting.specs.Program.{shownLength, shown}
+use Rattle.rewriting.specs.Program.{shown_length, shown}
 
 -- so many bytes have been copied
 pub record Copied (before text buffer : List ℕ) (i : ℕ) : Type 0 where
@@ -30,20 +30,20 @@ module _ {b t c : List ℕ} {i : ℕ} (p : Copied b t c i) where
             ∙ ap (λ (n : ℕ). take n t ++ drop n b) (sym (add-one i));
       }
 
-  pub copied-length : i ≤ length b → i ≤ length t → length c ≡ length b
-  copied-length l m =
+  pub copied_length : i ≤ length b → i ≤ length t → length c ≡ length b
+  copied_length l m =
       ap length p.bytes ∙ length-append (take i t) (drop i b) ∙ (let x = length-take-le i t m in let y = length-drop i b in omega arith)
 
 -- ---- the two ways out
 
 module _ (b t : List ℕ) (n : ℕ) (m : n ≤ length t) where
-  pub shown-not : length b < n → (0 ≡ shownLength (take n t) b) × (b ≡ shown (take n t) b)
-  unfolding shownLength shown
-  shown-not l = let e = lt-leb (length (take n t)) (length b) (let x = length-take-le n t m in omega arith) in (rw e refl, rw e refl)
+  pub shown_not : length b < n → (0 ≡ shown_length (take n t) b) × (b ≡ shown (take n t) b)
+  unfolding shown_length shown
+  shown_not l = let e = lt-leb (length (take n t)) (length b) (let x = length-take-le n t m in omega arith) in (rw e refl, rw e refl)
 
-  pub shown-all : {c : List ℕ} → n ≤ length b → Copied b t c n → (n ≡ shownLength (take n t) b) × (c ≡ shown (take n t) b)
-  unfolding shownLength shown
-  shown-all l p =
+  pub shown_all : {c : List ℕ} → n ≤ length b → Copied b t c n → (n ≡ shown_length (take n t) b) × (c ≡ shown (take n t) b)
+  unfolding shown_length shown
+  shown_all l p =
       let x = length-take-le n t m in
       let e = le-leb (length (take n t)) (length b) (omega arith) in
       (rw e (sym x), p.bytes ∙ rw e (ap (λ (k : ℕ). take n t ++ drop k b) (sym x)))

@@ -2,11 +2,11 @@
 use Rattle.std.specs.Prelude.{ℕ, zero, suc, ◌+◌, ◌/◌, ◌%◌, cond, List, [], ◌∷◌, ◌++◌, length, drop, ltb, leb, eqb}
 use Rattle.reading.specs.declared.Loaded.{Loaded}
 use Rattle.reading.specs.Loading.{load}
-use Rattle.bundle.specs.Writing.{bundleOf}
+use Rattle.bundle.specs.Writing.{bundle_of}
 
 -- "A program reads a bundle of at most 65,536 bytes on standard input"
-abbrev pub mostBytes : ℕ
-mostBytes = 65536
+abbrev pub most_bytes : ℕ
+most_bytes = 65536
 
 -- the decimal digits of n, at most d of them
 abbrev pub decimals : ℕ → ℕ → List ℕ
@@ -14,29 +14,29 @@ decimals zero n = []
 decimals (suc d) n = cond (ltb n 10) ((48 + n) ∷ []) (decimals d (n / 10) ++ ((48 + n % 10) ∷ []))
 
 -- `REFUSED`, a space, the number, a space, the line number (of a text of at most 65,536 bytes: at most 5 digits), and 0A
-abbrev pub refusedText : ℕ → ℕ → List ℕ
-refusedText n line = (82 ∷ 69 ∷ 70 ∷ 85 ∷ 83 ∷ 69 ∷ 68 ∷ 32 ∷ []) ++ (decimals 1 n ++ (32 ∷ (decimals 5 line ++ (10 ∷ []))))
+abbrev pub refused_text : ℕ → ℕ → List ℕ
+refused_text n line = (82 ∷ 69 ∷ 70 ∷ 85 ∷ 83 ∷ 69 ∷ 68 ∷ 32 ∷ []) ++ (decimals 1 n ++ (32 ∷ (decimals 5 line ++ (10 ∷ []))))
 
 -- its first ten bytes, with the number's digit, and what follows them
-abbrev pub refusedStart : ℕ → List ℕ → List ℕ
-refusedStart digit rest = 82 ∷ 69 ∷ 70 ∷ 85 ∷ 83 ∷ 69 ∷ 68 ∷ 32 ∷ digit ∷ 32 ∷ rest
+abbrev pub refused_start : ℕ → List ℕ → List ℕ
+refused_start digit rest = 82 ∷ 69 ∷ 70 ∷ 85 ∷ 83 ∷ 69 ∷ 68 ∷ 32 ∷ digit ∷ 32 ∷ rest
 
 -- `TOO LONG` and 0A
-abbrev pub tooLong : List ℕ
-tooLong = 84 ∷ 79 ∷ 79 ∷ 32 ∷ 76 ∷ 79 ∷ 78 ∷ 71 ∷ 10 ∷ []
+abbrev pub too_long : List ℕ
+too_long = 84 ∷ 79 ∷ 79 ∷ 32 ∷ 76 ∷ 79 ∷ 78 ∷ 71 ∷ 10 ∷ []
 
 -- a bundle that loads is written again by the writer
 abbrev pub reported : Loaded → List ℕ
-reported l = cond (eqb l.number 0) (bundleOf l.rules) (refusedText l.number l.line)
+reported l = cond (eqb l.number 0) (bundle_of l.rules) (refused_text l.number l.line)
 
 unfoldable pub program : List ℕ → List ℕ
-program text = cond (ltb mostBytes (length text)) tooLong (reported (load text))
+program text = cond (ltb most_bytes (length text)) too_long (reported (load text))
 
 -- ---- bytes put at the start of a buffer
 
 -- how many: all, or none where they do not fit
-unfoldable pub shownLength : List ℕ → List ℕ → ℕ
-shownLength t buffer = cond (leb (length t) (length buffer)) (length t) 0
+unfoldable pub shown_length : List ℕ → List ℕ → ℕ
+shown_length t buffer = cond (leb (length t) (length buffer)) (length t) 0
 
 -- what the buffer then holds: they, and the bytes past them as they were; untouched where they do not fit
 unfoldable pub shown : List ℕ → List ℕ → List ℕ

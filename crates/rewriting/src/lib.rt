@@ -1,7 +1,7 @@
 // What the program `rewrite` prints: one function from the bytes of its input to the bytes of its output.
 
 ghost use Rattle.std.specs.Prelude.{◌≡◌, [], ◌∷◌, ◌+◌, ◌≤◌, ◌<◌, length, take};
-ghost use Rattle.rewriting.specs.Program.{refusedStart, refusedText, program, shownLength, shown};
+ghost use Rattle.rewriting.specs.Program.{refused_start, refused_text, program, shown_length, shown};
 
 // The longest input that the program takes.
 pub const MOST_BYTES: usize = 65536;
@@ -15,7 +15,7 @@ pub struct Refusal {
 
 // `REFUSED`, a space, a digit, a space and six bytes, of which the first so many of all count.
 fn refused(digit: u8, a: u8, b: u8, c: u8, d: u8, e: u8, f: u8, length: usize) -> Refusal
-    ensures { (result.bytes ≡ refusedStart digit (a ∷ b ∷ c ∷ d ∷ e ∷ f ∷ [])) × (result.length ≡ length) }
+    ensures { (result.bytes ≡ refused_start digit (a ∷ b ∷ c ∷ d ∷ e ∷ f ∷ [])) × (result.length ≡ length) }
 {
     Refusal {
         bytes: [82, 69, 70, 85, 83, 69, 68, 32, digit, 32, a, b, c, d, e, f],
@@ -26,7 +26,7 @@ fn refused(digit: u8, a: u8, b: u8, c: u8, d: u8, e: u8, f: u8, length: usize) -
 // `REFUSED`, the number and the line, each after a space, and 0A. The line number has as many digits as it needs.
 fn refusal_text(number: u8, line: usize) -> Refusal
     requires { (number < 10) × (line < 100000) }
-    ensures { (take result.length result.bytes ≡ refusedText number line) × (result.length ≤ length result.bytes) }
+    ensures { (take result.length result.bytes ≡ refused_text number line) × (result.length ≤ length result.bytes) }
 {
     let n = 48 + number;
     let d4 = (48 + line % 10) as u8;
@@ -55,7 +55,7 @@ fn refusal_text(number: u8, line: usize) -> Refusal
 // Puts the first n bytes of a text at the start of the buffer, and returns n. Where they do not fit: 0, the buffer untouched.
 pub fn show(buffer: &mut [u8], text: &[u8], n: usize) -> usize
     requires { n ≤ length text.now }
-    ensures { (result ≡ shownLength (take n text.now) buffer.old)
+    ensures { (result ≡ shown_length (take n text.now) buffer.old)
         × (buffer.new ≡ shown (take n text.now) buffer.old) }
 {
     if buffer.len() < n {
@@ -71,7 +71,7 @@ pub fn show(buffer: &mut [u8], text: &[u8], n: usize) -> usize
 
 // The output for an input, at the start of the buffer, and its length. Where it does not fit: 0, the buffer untouched.
 pub fn rewritten(input: &[u8], output: &mut [u8]) -> usize
-    ensures { (result ≡ shownLength (program input.now) output.old)
+    ensures { (result ≡ shown_length (program input.now) output.old)
         × (output.new ≡ shown (program input.now) output.old) }
 {
     if MOST_BYTES < input.len() {

@@ -1,6 +1,6 @@
 -- Formulas in range: their ops, parts and heights (document 01, "Formulas"; requests 2026-03 and 2026-05).
 use Rattle.std.specs.Prelude.{Bool, false, cond, ◌&&◌, ℕ, suc, max, ltb, leb, eqb}
-use Rattle.common.specs.Limits.{highestLabel, highestRole, highestSlot, greatestHeight}
+use Rattle.common.specs.Limits.{highest_label, highest_role, highest_slot, greatest_height}
 
 -- 0 true; 1 here is s; 2 here is o; 3 s holds role a; 4 not a; 5 a and b; 6 a or b;
 -- 7 some edge (a, here, v) has b true at v; 8 some edge (a, v, here) has b true at v;
@@ -27,39 +27,39 @@ op_of n =
 
 -- a and b of the formula numbered i: formula numbers below i, a role or label 0 to 15, a slot 0 to 3, 0 where unused;
 -- "An op is now out of range above 11."
-abbrev pub partsInRange : Op → ℕ → ℕ → ℕ → Bool
-partsInRange always i a b = eqb a 0 && eqb b 0
-partsInRange requestor i a b = eqb a 0 && eqb b 0
-partsInRange object i a b = eqb a 0 && eqb b 0
-partsInRange role i a b = leb a highestRole && eqb b 0
-partsInRange negation i a b = ltb a i && eqb b 0
-partsInRange conjunction i a b = ltb a i && ltb b i
-partsInRange disjunction i a b = ltb a i && ltb b i
-partsInRange forward i a b = leb a highestLabel && ltb b i
-partsInRange backward i a b = leb a highestLabel && ltb b i
-partsInRange keeping i a b = leb a highestSlot && ltb b i
-partsInRange in_slot i a b = leb a highestSlot && eqb b 0
-partsInRange atSlot i a b = leb a highestSlot && ltb b i
-partsInRange unknown i a b = false
+abbrev pub parts_in_range : Op → ℕ → ℕ → ℕ → Bool
+parts_in_range always i a b = eqb a 0 && eqb b 0
+parts_in_range requestor i a b = eqb a 0 && eqb b 0
+parts_in_range object i a b = eqb a 0 && eqb b 0
+parts_in_range role i a b = leb a highest_role && eqb b 0
+parts_in_range negation i a b = ltb a i && eqb b 0
+parts_in_range conjunction i a b = ltb a i && ltb b i
+parts_in_range disjunction i a b = ltb a i && ltb b i
+parts_in_range forward i a b = leb a highest_label && ltb b i
+parts_in_range backward i a b = leb a highest_label && ltb b i
+parts_in_range keeping i a b = leb a highest_slot && ltb b i
+parts_in_range in_slot i a b = leb a highest_slot && eqb b 0
+parts_in_range atSlot i a b = leb a highest_slot && ltb b i
+parts_in_range unknown i a b = false
 
 -- 0 for ops 0 to 3, else one more than the highest child; "In 9 and 11, .. the height is one more than b's; op 10 has height 0";
 -- `part g` is the height of formula g
-abbrev pub heightOf : Op → ℕ → ℕ → (ℕ → ℕ) → ℕ
-heightOf always a b part = 0
-heightOf requestor a b part = 0
-heightOf object a b part = 0
-heightOf role a b part = 0
-heightOf negation a b part = suc (part a)
-heightOf conjunction a b part = suc (max (part a) (part b))
-heightOf disjunction a b part = suc (max (part a) (part b))
-heightOf forward a b part = suc (part b)
-heightOf backward a b part = suc (part b)
-heightOf keeping a b part = suc (part b)
-heightOf in_slot a b part = 0
-heightOf atSlot a b part = suc (part b)
-heightOf unknown a b part = 0
+abbrev pub height_of : Op → ℕ → ℕ → (ℕ → ℕ) → ℕ
+height_of always a b part = 0
+height_of requestor a b part = 0
+height_of object a b part = 0
+height_of role a b part = 0
+height_of negation a b part = suc (part a)
+height_of conjunction a b part = suc (max (part a) (part b))
+height_of disjunction a b part = suc (max (part a) (part b))
+height_of forward a b part = suc (part b)
+height_of backward a b part = suc (part b)
+height_of keeping a b part = suc (part b)
+height_of in_slot a b part = 0
+height_of atSlot a b part = suc (part b)
+height_of unknown a b part = 0
 
 -- the formula (op, a, b) numbered i, with a height h, is in range; request 2026-05: "Height 6 is out of range, in a bundle and in a record
 -- handed in": both are judged by this
-abbrev pub formulaInRange : ℕ → ℕ → ℕ → ℕ → ℕ → Bool
-formulaInRange i op a b h = partsInRange (op_of op) i a b && leb h greatestHeight
+abbrev pub formula_in_range : ℕ → ℕ → ℕ → ℕ → ℕ → Bool
+formula_in_range i op a b h = parts_in_range (op_of op) i a b && leb h greatest_height

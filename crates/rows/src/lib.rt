@@ -4,9 +4,9 @@
 ghost use Rattle.std.specs.Prelude.{◌≡◌, true, false, not, ◌&&◌, ℕ, max, ◌+◌, ◌<◌, ltb, leb, eqb};
 ghost use Rattle.common.specs.Lists.{at};
 ghost use Rattle.common.specs.Causes.{first};
-ghost use Rattle.common.specs.Limits.{mostObjects, mostEdges, mostFormulas, mostDemarcations, mostPrincipals, mostMethods};
-ghost use Rattle.rows.specs.Op.{op_of, partsInRange, heightOf, formulaInRange};
-ghost use Rattle.rows.specs.Checks.{causes, edgeInRange, pairInRange, edgeKey, pairKey};
+ghost use Rattle.common.specs.Limits.{most_objects, most_edges, most_formulas, most_demarcations, most_principals, most_methods};
+ghost use Rattle.rows.specs.Op.{op_of, parts_in_range, height_of, formula_in_range};
+ghost use Rattle.rows.specs.Checks.{causes, edge_in_range, pair_in_range, edge_key, pair_key};
 
 use common::{
     ACCEPTED, GREATEST_HEIGHT, HIGHEST_LABEL, HIGHEST_ROLE, HIGHEST_SLOT, MOST_DEMARCATIONS,
@@ -31,7 +31,7 @@ pub fn first_cause(over: bool, out: bool, falls: bool) -> u8
 
 // Kind 01: version 1, and at minimum one object.
 pub fn head_refusal(version: u8, objects: u8) -> u8
-    ensures { result ≡ first (causes false (not (eqb version 1 && (leb 1 objects && leb objects mostObjects))) false) }
+    ensures { result ≡ first (causes false (not (eqb version 1 && (leb 1 objects && leb objects most_objects))) false) }
 {
     let fits = (version == 1) & (1 <= objects);
     first_cause(false, !fits, false)
@@ -45,13 +45,13 @@ pub fn after_user(object: u8) -> u32
 }
 
 pub fn after_edge(label: u8, source: u8, target: u8) -> u32
-    ensures { result ≡ edgeKey label source target + 1 }
+    ensures { result ≡ edge_key label source target + 1 }
 {
     edge_key(label, source, target) + 1
 }
 
 pub fn after_pair(a: u8, b: u8) -> u32
-    ensures { result ≡ pairKey a b + 1 }
+    ensures { result ≡ pair_key a b + 1 }
 {
     pair_key(a, b) + 1
 }
@@ -65,22 +65,22 @@ pub fn user_refusal(objects: u8, minimum: u32, object: u8) -> u8
 
 // An edge's key, by which edges rise as triples.
 pub fn edge_key(label: u8, source: u8, target: u8) -> u32
-    ensures { result ≡ edgeKey label source target }
+    ensures { result ≡ edge_key label source target }
 {
     (label as u32) * 65536 + (source as u32) * 256 + (target as u32)
 }
 
 // The label is at most 15, and both ends are objects.
 pub fn edge_in_range(objects: u8, label: u8, source: u8, target: u8) -> bool
-    ensures { result ≡ edgeInRange objects label source target }
+    ensures { result ≡ edge_in_range objects label source target }
 {
     (label <= HIGHEST_LABEL) & ((source < objects) & (target < objects))
 }
 
 // Kind 03.
 pub fn edge_refusal(row: usize, objects: u8, minimum: u32, label: u8, source: u8, target: u8) -> u8
-    ensures { result ≡ first (causes (leb mostEdges row) (not (edgeInRange objects label source target))
-        (ltb (edgeKey label source target) minimum)) }
+    ensures { result ≡ first (causes (leb most_edges row) (not (edge_in_range objects label source target))
+        (ltb (edge_key label source target) minimum)) }
 {
     let fits = edge_in_range(objects, label, source, target);
     let key = edge_key(label, source, target);
@@ -89,7 +89,7 @@ pub fn edge_refusal(row: usize, objects: u8, minimum: u32, label: u8, source: u8
 
 // The parts of a formula: formula numbers below its own, a role, label or slot at most the highest, zero where unused.
 pub fn parts_in_range(row: usize, op: u8, a: u8, b: u8) -> bool
-    ensures { result ≡ partsInRange (op_of op) row a b }
+    ensures { result ≡ parts_in_range (op_of op) row a b }
 {
     match op {
         0..=2 => (a == 0) & (b == 0),
@@ -128,7 +128,7 @@ fn larger(x: u8, y: u8) -> u8
 // The height of a formula, from the heights of those below it.
 pub fn formula_height(op: u8, a: u8, b: u8, heights: [u8; MOST_FORMULAS]) -> u8
     requires { (g : ℕ) → at heights g < 255 }
-    ensures { result ≡ heightOf (op_of op) a b (at heights) }
+    ensures { result ≡ height_of (op_of op) a b (at heights) }
 {
     let x = height_at(heights, a);
     let y = height_at(heights, b);
@@ -143,7 +143,7 @@ pub fn formula_height(op: u8, a: u8, b: u8, heights: [u8; MOST_FORMULAS]) -> u8
 
 // Kind 04, of a formula with this height.
 pub fn formula_refusal(row: usize, op: u8, a: u8, b: u8, height: u8) -> u8
-    ensures { result ≡ first (causes (leb mostFormulas row) (not (formulaInRange row op a b height)) false) }
+    ensures { result ≡ first (causes (leb most_formulas row) (not (formula_in_range row op a b height)) false) }
 {
     let fits = parts_in_range(row, op, a, b) & (height <= GREATEST_HEIGHT);
     first_cause(MOST_FORMULAS <= row, !fits, false)
@@ -151,21 +151,21 @@ pub fn formula_refusal(row: usize, op: u8, a: u8, b: u8, height: u8) -> u8
 
 // Kind 05: no number is out of range.
 pub fn demarcation_refusal(row: usize) -> u8
-    ensures { result ≡ first (causes (leb mostDemarcations row) false false) }
+    ensures { result ≡ first (causes (leb most_demarcations row) false false) }
 {
     first_cause(MOST_DEMARCATIONS <= row, false, false)
 }
 
 // A pair's key, by which pairs rise.
 pub fn pair_key(low: u8, high: u8) -> u32
-    ensures { result ≡ pairKey low high }
+    ensures { result ≡ pair_key low high }
 {
     (low as u32) * 256 + (high as u32)
 }
 
 // Kinds 06 and 09: two different things, of so many.
 pub fn pair_refusal(things: usize, minimum: u32, a: u8, b: u8) -> u8
-    ensures { result ≡ first (causes false (not (pairInRange things a b)) (ltb (pairKey a b) minimum)) }
+    ensures { result ≡ first (causes false (not (pair_in_range things a b)) (ltb (pair_key a b) minimum)) }
 {
     let fits = ((a as usize) < things) & (((b as usize) < things) & !(a == b));
     first_cause(false, !fits, pair_key(a, b) < minimum)
@@ -179,7 +179,7 @@ pub fn principal_refusal(
     formula: u8,
     demarcation: u8,
 ) -> u8
-    ensures { result ≡ first (causes (leb mostPrincipals row) (not (ltb formula formulas && ltb demarcation demarcations)) false) }
+    ensures { result ≡ first (causes (leb most_principals row) (not (ltb formula formulas && ltb demarcation demarcations)) false) }
 {
     let fits = ((formula as usize) < formulas) & ((demarcation as usize) < demarcations);
     first_cause(MOST_PRINCIPALS <= row, !fits, false)
@@ -187,7 +187,7 @@ pub fn principal_refusal(
 
 // Kind 08.
 pub fn exclusion_refusal(principals: usize, minimum: u32, low: u8, high: u8) -> u8
-    ensures { result ≡ first (causes false (not (ltb low high && ltb high principals)) (ltb (pairKey low high) minimum)) }
+    ensures { result ≡ first (causes false (not (ltb low high && ltb high principals)) (ltb (pair_key low high) minimum)) }
 {
     let fits = (low < high) & ((high as usize) < principals);
     first_cause(false, !fits, pair_key(low, high) < minimum)
@@ -195,7 +195,7 @@ pub fn exclusion_refusal(principals: usize, minimum: u32, low: u8, high: u8) -> 
 
 // Kind 0A.
 pub fn method_refusal(row: usize, form: u8) -> u8
-    ensures { result ≡ first (causes (leb mostMethods row) (not (leb form 1)) false) }
+    ensures { result ≡ first (causes (leb most_methods row) (not (leb form 1)) false) }
 {
     first_cause(MOST_METHODS <= row, !(form <= 1), false)
 }

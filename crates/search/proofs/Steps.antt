@@ -3,59 +3,59 @@ use Rattle.std.proofs.Common.{◌≡◌, ℕ, suc, ◌+◌, ◌-◌, ◌*◌, �
 use lib.Bits.{bit_or}
 use lib.Count.{ones, ones-le}
 use Rattle.search.specs.declared.Masks.{Masks}
-use Rattle.common.specs.Limits.{mostPrincipals}
+use Rattle.common.specs.Limits.{most_principals}
 use Rattle.common.specs.Sets.{Apart, Within}
-use Rattle.search.specs.Search.{Candidate, LeastCandidate, NoCandidate, roleCountIn}
+use Rattle.search.specs.Search.{Candidate, LeastCandidate, NoCandidate, role_count_in}
 use Rattle.search.specs.Answers.{FoundValues}
 use Rattle.search.specs.Answers.GrantedOrDenied.{grants, denies}
-use Rattle.search.specs.Search.Before.{by_members, by-role-count, by_number}
+use Rattle.search.specs.Search.Before.{by_members, by_role_count_lem, by_number}
 use Rattle.search.specs.Steps.{State, LeastCompletion, NoCompletion, Completed, LeastOfSize, NoneOfSize}
-use Rattle.common.specs.CountLaws.{ones-zero, no_ones, ones-top, power-double}
-use Rattle.common.specs.SetLaws.{le-or-lt, none-in-zero, or-in, pow-in, in-lt, in-ge, sum-in}
-use Rattle.search.proofs.Counts.{ones_and, role-count-zero, role-count-top}
+use Rattle.common.specs.CountLaws.{ones_zero, no_ones, ones_top, power_double}
+use Rattle.common.specs.SetLaws.{le_or_lt, none_in_zero, or_in, pow_in, in_lt, in_ge, sum_in}
+use Rattle.search.proofs.Counts.{ones_and, role_count_zero, role_count_top}
 
 module _ {r : Masks} {n c : ℕ} where
-  pub chosen-alone : Candidate r c → LeastCompletion r n 0 0 c c
-  chosen-alone d = record {
+  pub chosen_alone : Candidate r c → LeastCompletion r n 0 0 c c
+  chosen_alone d = record {
     more = 0;
     is = omega arith;
     below = pow_pos n;
-    size = ones-zero;
-    roles = role-count-zero r.role_principals;
+    size = ones_zero;
+    roles = role_count_zero r.role_principals;
     candidate = d;
     smallest = λ y l e f x. omega arith;
   }
 
-  pub chosen-fails : (Candidate r c → ⊥) → NoCompletion r n 0 0 c
-  chosen-fails f = record { none = λ y l e o d. f (subst (λ (z : ℕ). Candidate r z) (omega (arith, no_ones y e)) d) }
+  pub chosen_fails : (Candidate r c → ⊥) → NoCompletion r n 0 0 c
+  chosen_fails f = record { none = λ y l e o d. f (subst (λ (z : ℕ). Candidate r z) (omega (arith, no_ones y e)) d) }
 
   pub too_few : {k j : ℕ} → n < k → NoCompletion r n k j c
   too_few h = record { none = λ y l e o d. omega (arith, ones-le n y l) }
 
-  pub too-many-roles : {k j : ℕ} → k < j → NoCompletion r n k j c
-  too-many-roles h = record { none = λ y l e o d. omega (arith, ones_and y r.role_principals) }
+  pub too_many_roles : {k j : ℕ} → k < j → NoCompletion r n k j c
+  too_many_roles h = record { none = λ y l e o d. omega (arith, ones_and y r.role_principals) }
 
 -- no candidate of c, m and principals below m
 pub record NoneWith (r : Masks) (m k j c : ℕ) : Type 0 where
-  pub none : (x : ℕ) → x < 2 ^ m → 1 + ones x ≡ k → roleCountIn r (2 ^ m) + roleCountIn r x ≡ j → Candidate r (c + 2 ^ m + x) → ⊥
+  pub none : (x : ℕ) → x < 2 ^ m → 1 + ones x ≡ k → role_count_in r (2 ^ m) + role_count_in r x ≡ j → Candidate r (c + 2 ^ m + x) → ⊥
 
 -- m is a role principal, and no more of these are to be added
-pub no-role-left : {r : Masks} {m k j c w : ℕ} → w ≡ roleCountIn r (2 ^ m) → j < w → NoneWith r m k j c
-no-role-left e h = record { none = λ x l o q d. omega arith }
+pub no_role_left : {r : Masks} {m k j c w : ℕ} → w ≡ role_count_in r (2 ^ m) → j < w → NoneWith r m k j c
+no_role_left e h = record { none = λ x l o q d. omega arith }
 
-pub none-with : {r : Masks} {m k j c w : ℕ} → w ≡ roleCountIn r (2 ^ m) → NoCompletion r m (k - 1) (j - w) (c + 2 ^ m) → NoneWith r m k j c
-none-with e f = record { none = λ x l o q d. f.none x l (omega arith) (omega arith) d }
+pub none_with : {r : Masks} {m k j c w : ℕ} → w ≡ role_count_in r (2 ^ m) → NoCompletion r m (k - 1) (j - w) (c + 2 ^ m) → NoneWith r m k j c
+none_with e f = record { none = λ x l o q d. f.none x l (omega arith) (omega arith) d }
 
 module _ {n m : ℕ} (e : n ≡ suc m) where
   double : 2 ^ n ≡ 2 * 2 ^ m
-  double = ap (λ (x : ℕ). 2 ^ x) e ∙ power-double m
+  double = ap (λ (x : ℕ). 2 ^ x) e ∙ power_double m
 
   -- y is below m, or holds m
   split : {y : ℕ} → y < 2 ^ n → (y < 2 ^ m) ⊎ ((x : ℕ) × (y ≡ 2 ^ m + x) × (x < 2 ^ m))
   split {y} l = ⊎_elim
       (λ h. inr (y - 2 ^ m, omega arith, omega (arith, double)))
       (λ h. inl h)
-      (le-or-lt (2 ^ m) y)
+      (le_or_lt (2 ^ m) y)
 
   pub top_small : 2 ^ m < 2 ^ n
   top_small = omega (arith, double, pow_pos m)
@@ -77,21 +77,21 @@ module _ {r : Masks} {n m c : ℕ} (e : n ≡ suc m) where
     none = λ y l o q d. ⊎_elim
         (λ h. f.none y h o q d)
         (λ w. g.none w.0 w.2
-        (omega (arith, ones-top m w.0 w.2, ap ones w.1))
-        (omega (arith, role-count-top r.role_principals m w.0 w.2, ap (roleCountIn r) w.1))
+        (omega (arith, ones_top m w.0 w.2, ap ones w.1))
+        (omega (arith, role_count_top r.role_principals m w.0 w.2, ap (role_count_in r) w.1))
         (subst (λ (z : ℕ). Candidate r z) (omega (arith, w.1)) d))
         (split e l);
   }
 
   -- m is added, with w role principals
-  module _ {k j w : ℕ} (p : 0 < k) (u : w ≡ roleCountIn r (2 ^ m)) (i : w ≤ j) (f : NoCompletion r m k j c) where
+  module _ {k j w : ℕ} (p : 0 < k) (u : w ≡ role_count_in r (2 ^ m)) (i : w ≤ j) (f : NoCompletion r m k j c) where
     include : {s : ℕ} → LeastCompletion r m (k - 1) (j - w) (c + 2 ^ m) s → LeastCompletion r n k j c s
     include {s} g = record {
       more = 2 ^ m + g.more;
       is = omega (arith, g.is);
       below = omega (arith, double e, g.below);
-      size = omega (arith, ones-top m g.more g.below, g.size);
-      roles = omega (arith, role-count-top r.role_principals m g.more g.below, g.roles);
+      size = omega (arith, ones_top m g.more g.below, g.size);
+      roles = omega (arith, role_count_top r.role_principals m g.more g.below, g.roles);
       candidate = g.candidate;
       smallest = λ y l o q d. ⊎_elim
           (λ h. absurd (f.none y h o q d))
@@ -99,8 +99,8 @@ module _ {r : Masks} {n m c : ℕ} (e : n ≡ suc m) where
             arith,
             v.1,
             g.smallest v.0 v.2
-                (omega (arith, ones-top m v.0 v.2, ap ones v.1))
-                (omega (arith, role-count-top r.role_principals m v.0 v.2, ap (roleCountIn r) v.1))
+                (omega (arith, ones_top m v.0 v.2, ap ones v.1))
+                (omega (arith, role_count_top r.role_principals m v.0 v.2, ap (role_count_in r) v.1))
                 (subst (λ (z : ℕ). Candidate r z) (omega (arith, v.1)) d),
           ))
           (split e l);
@@ -108,7 +108,7 @@ module _ {r : Masks} {n m c : ℕ} (e : n ≡ suc m) where
 
     pub step : {a : FoundValues} → Completed r m (k - 1) (j - w) (c + 2 ^ m) a → Completed r n k j c a
     step (grants s q b) = grants s q (include b)
-    step (denies q b) = denies q (neither f (none-with u b))
+    step (denies q b) = denies q (neither f (none_with u b))
 
   halved : {b : ℕ} (s : State r n c b) → c ≡ s.head * 2 * 2 ^ m
   halved s = s.above ∙ ap (λ (x : ℕ). s.head * x) (double e) ∙ sym (mul_assoc s.head 2 (2 ^ m))
@@ -126,13 +126,13 @@ module _ {r : Masks} {n m c : ℕ} (e : n ≡ suc m) where
         ⊎_elim
         (λ x. s.barred y l' q i x)
         (λ x. ⊎_elim
-        (λ z. omega (arith, in-ge s.head n s.above z, pow-in m x))
-        (λ z. omega (arith, in-lt m z l, pow-in m x))
-        (sum-in s.head n s.above l' i))
-        (or-in b (2 ^ m) j);
+        (λ z. omega (arith, in_ge s.head n s.above z, pow_in m x))
+        (λ z. omega (arith, in_lt m z l, pow_in m x))
+        (sum_in s.head n s.above l' i))
+        (or_in b (2 ^ m) j);
   }
 
-  pub room : {b : ℕ} → State r n c b → (m < mostPrincipals) × (c + 2 ^ m < 2 ^ mostPrincipals)
+  pub room : {b : ℕ} → State r n c b → (m < most_principals) × (c + 2 ^ m < 2 ^ most_principals)
   room s = (omega (arith, s.few, s.small), omega (arith, s.room, pow_mono s.few, double e, pow_pos m))
 
   -- m is added
@@ -148,23 +148,23 @@ module _ {r : Masks} {n m c : ℕ} (e : n ≡ suc m) where
 
 -- ---- from the search to the least candidate
 
-pub start : (r : Masks) → r.count ≤ mostPrincipals → State r r.count 0 0
+pub start : (r : Masks) → r.count ≤ most_principals → State r r.count 0 0
 start r h = record {
   few = h;
   small = omega arith;
   head = 0;
   above = omega arith;
   room = omega arith;
-  barred = λ y l q i j. none-in-zero q j;
+  barred = λ y l q i j. none_in_zero q j;
 }
 
 -- every candidate of k members has j role principals or more
-module _ {r : Masks} {k j : ℕ} (low : (t : ℕ) → Candidate r t → ones t ≡ k → j ≤ roleCountIn r t) where
-  pub first-of-size : {s : ℕ} → LeastCompletion r r.count k j 0 s → LeastOfSize r k s
-  first-of-size {s} f =
+module _ {r : Masks} {k j : ℕ} (low : (t : ℕ) → Candidate r t → ones t ≡ k → j ≤ role_count_in r t) where
+  pub first_of_size : {s : ℕ} → LeastCompletion r r.count k j 0 s → LeastOfSize r k s
+  first_of_size {s} f =
       let e : s ≡ f.more = omega (arith, f.is) in
       let o : ones s ≡ k = ap ones e ∙ f.size in
-      let p : roleCountIn r s ≡ j = ap (roleCountIn r) e ∙ f.roles in
+      let p : role_count_in r s ≡ j = ap (role_count_in r) e ∙ f.roles in
       record {
         candidate = f.candidate;
         size = o;
@@ -173,24 +173,24 @@ module _ {r : Masks} {k j : ℕ} (low : (t : ℕ) → Candidate r t → ones t �
             (o ∙ sym u)
             (p ∙ q)
             (omega (arith, e, f.smallest t d.inside u (sym q) (subst (λ (z : ℕ). Candidate r z) (omega arith) d))))
-            (λ l. by-role-count (o ∙ sym u) (omega (arith, p, l)))
+            (λ l. by_role_count_lem (o ∙ sym u) (omega (arith, p, l)))
             (eq-or-lt_of_le (low t d u));
       }
 
-  pub more-roles : NoCompletion r r.count k j 0 → (t : ℕ) → Candidate r t → ones t ≡ k → j + 1 ≤ roleCountIn r t
-  more-roles f t d u = ⊎_elim
+  pub more_roles : NoCompletion r r.count k j 0 → (t : ℕ) → Candidate r t → ones t ≡ k → j + 1 ≤ role_count_in r t
+  more_roles f t d u = ⊎_elim
       (λ q. absurd (f.none t d.inside u (sym q) (subst (λ (z : ℕ). Candidate r z) (omega arith) d)))
       (λ l. omega arith)
       (eq-or-lt_of_le (low t d u))
 
   -- and no set of so many allowed principals has them
-  pub past-roles : {most : ℕ} → ((t : ℕ) → Within t r.allowed → ones t ≡ k → roleCountIn r t ≤ most) → most < j → NoneOfSize r k
-  past-roles f h = record { none = λ t d u. omega (arith, low t d u, f t d.allowed u) }
+  pub past_roles : {most : ℕ} → ((t : ℕ) → Within t r.allowed → ones t ≡ k → role_count_in r t ≤ most) → most < j → NoneOfSize r k
+  past_roles f h = record { none = λ t d u. omega (arith, low t d u, f t d.allowed u) }
 
 -- every candidate has k members or more
 module _ {r : Masks} {k : ℕ} (low : (t : ℕ) → Candidate r t → k ≤ ones t) where
-  pub least-found : {s : ℕ} → LeastOfSize r k s → LeastCandidate r s
-  least-found f = record {
+  pub least_found : {s : ℕ} → LeastOfSize r k s → LeastCandidate r s
+  least_found f = record {
     candidate = f.candidate;
     first = λ t d. ⊎_elim
         (λ q. f.first t d (sym q))

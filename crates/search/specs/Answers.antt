@@ -1,6 +1,6 @@
 -- What a search answers, in document 01's words.
 use Rattle.std.specs.Prelude.{◌≡◌, ℕ}
-use Rattle.common.specs.Refusals.{noSet}
+use Rattle.common.specs.Refusals.{no_set}
 use Rattle.search.specs.declared.Found.{Found}
 use Rattle.search.specs.declared.Found.TheVariants.{Set, Nothing}
 
@@ -14,12 +14,12 @@ abbrev pub granted : ℕ → FoundValues
 granted s = record { number = 0; set = s }
 
 abbrev pub denied : FoundValues
-denied = record { number = noSet; set = 0 }
+denied = record { number = no_set; set = 0 }
 
 -- of each case of an answer
-abbrev pub foundValues : Found → FoundValues
-foundValues (Set s) = granted s
-foundValues Nothing = denied
+abbrev pub found_values : Found → FoundValues
+found_values (Set s) = granted s
+found_values Nothing = denied
 
 -- what a number and set say: granted, with a set of which P holds; or denied, and Q holds
 pub data GrantedOrDenied (P : ℕ → Type 0) (Q : Type 0) (a : FoundValues) : Type 0 where

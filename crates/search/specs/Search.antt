@@ -34,21 +34,21 @@ pub record Candidate (r : Masks) (s : ℕ) : Type 0 where
   pub met : Met r.every r s
 
 -- The order of sets: s comes before t, or is t. "Least: fewest members", and "Among satisfying sets with equally few members, the one with
--- fewer role principals (formula of op 3) now comes first, and then the smaller set number" (2026-06). `roleCount` says how many members
+-- fewer role principals (formula of op 3) now comes first, and then the smaller set number" (2026-06). `role_count` says how many members
 -- of a set are role principals.
-pub data Before (roleCount : ℕ → ℕ) (s t : ℕ) : Type 0 where
-  by_members : count_ones s < count_ones t → Before roleCount s t
-  by-role-count : count_ones s ≡ count_ones t → roleCount s < roleCount t → Before roleCount s t
-  by_number : count_ones s ≡ count_ones t → roleCount s ≡ roleCount t → s ≤ t → Before roleCount s t
+pub data Before (role_count : ℕ → ℕ) (s t : ℕ) : Type 0 where
+  by_members : count_ones s < count_ones t → Before role_count s t
+  by_role_count_lem : count_ones s ≡ count_ones t → role_count s < role_count t → Before role_count s t
+  by_number : count_ones s ≡ count_ones t → role_count s ≡ role_count t → s ≤ t → Before role_count s t
 
 -- how many members of s are role principals
-abbrev pub roleCountIn : Masks → ℕ → ℕ
-roleCountIn r s = count_ones (bit_and s r.role_principals)
+abbrev pub role_count_in : Masks → ℕ → ℕ
+role_count_in r s = count_ones (bit_and s r.role_principals)
 
 -- s is the least candidate; there is none
 pub record LeastCandidate (r : Masks) (s : ℕ) : Type 0 where
   pub candidate : Candidate r s
-  pub first : (t : ℕ) → Candidate r t → Before (roleCountIn r) s t
+  pub first : (t : ℕ) → Candidate r t → Before (role_count_in r) s t
 
 abbrev pub NoCandidate : Masks → Type 0
 NoCandidate r = (t : ℕ) → Candidate r t → ⊥

@@ -1,12 +1,12 @@
 -- What the functions below `least` say to each other.
 use Rattle.std.specs.Prelude.{◌≡◌, ℕ, ◌+◌, ◌*◌, ◌^◌, ◌<◌, ◌≤◌, Bool, true, false, List, ◌≢◌, count_ones}
 use Rattle.common.specs.Lists.{at}
-use Rattle.common.specs.Limits.{mostPrincipals}
+use Rattle.common.specs.Limits.{most_principals}
 use Rattle.common.specs.Sets.{In, Apart, Within}
 use Rattle.search.specs.declared.Masks.{Masks}
 use Rattle.search.specs.declared.Limit.{Limit}
 use Rattle.search.specs.Answers.{FoundValues, GrantedOrDenied}
-use Rattle.search.specs.Search.{Candidate, Before, roleCountIn}
+use Rattle.search.specs.Search.{Candidate, Before, role_count_in}
 
 -- the test b says whether P
 pub record Decides (b : Bool) (P : Type 0) : Type 0 where
@@ -33,7 +33,7 @@ ConflictFree r s = (p : ℕ) → In p s → Apart s (at r.excludes p)
 pub record Holds (r : Masks) (limit : Limit) (s b t : ℕ) : Type 0 where
   pub candidate : Candidate r t
   pub few : count_ones t ≤ limit.members
-  pub fewRoles : roleCountIn r t ≤ limit.role_principals
+  pub few_roles : role_count_in r t ≤ limit.role_principals
   pub held : Within s t
   pub apart : Apart t b
 
@@ -73,7 +73,7 @@ pub record Joins (r : Masks) (c m : ℕ) : Type 0 where
 
 -- c has members from n on alone, all below the count; none of b is in c or added to it
 pub record State (r : Masks) (n c b : ℕ) : Type 0 where
-  pub few : r.count ≤ mostPrincipals
+  pub few : r.count ≤ most_principals
   pub small : n ≤ r.count
   pub head : ℕ
   pub above : c ≡ head * 2 ^ n
@@ -86,13 +86,13 @@ pub record LeastCompletion (r : Masks) (n k j c s : ℕ) : Type 0 where
   pub is : s ≡ c + more
   pub below : more < 2 ^ n
   pub size : count_ones more ≡ k
-  pub roles : roleCountIn r more ≡ j
+  pub roles : role_count_in r more ≡ j
   pub candidate : Candidate r s
-  pub smallest : (y : ℕ) → y < 2 ^ n → count_ones y ≡ k → roleCountIn r y ≡ j → Candidate r (c + y) → more ≤ y
+  pub smallest : (y : ℕ) → y < 2 ^ n → count_ones y ≡ k → role_count_in r y ≡ j → Candidate r (c + y) → more ≤ y
 
 -- there is none
 pub record NoCompletion (r : Masks) (n k j c : ℕ) : Type 0 where
-  pub none : (y : ℕ) → y < 2 ^ n → count_ones y ≡ k → roleCountIn r y ≡ j → Candidate r (c + y) → ⊥
+  pub none : (y : ℕ) → y < 2 ^ n → count_ones y ≡ k → role_count_in r y ≡ j → Candidate r (c + y) → ⊥
 
 -- the answer of the search, one or the other
 abbrev pub Completed : Masks → ℕ → ℕ → ℕ → ℕ → FoundValues → Type 0
@@ -104,7 +104,7 @@ Completed r n k j c a = GrantedOrDenied (LeastCompletion r n k j c) (NoCompletio
 pub record LeastOfSize (r : Masks) (k s : ℕ) : Type 0 where
   pub candidate : Candidate r s
   pub size : count_ones s ≡ k
-  pub first : (t : ℕ) → Candidate r t → count_ones t ≡ k → Before (roleCountIn r) s t
+  pub first : (t : ℕ) → Candidate r t → count_ones t ≡ k → Before (role_count_in r) s t
 
 -- there is none
 pub record NoneOfSize (r : Masks) (k : ℕ) : Type 0 where

@@ -6,10 +6,10 @@
 // that has fewest of them, whatever their numbers. So a refusal costs no more than a grant.
 
 ghost use Rattle.std.specs.Prelude.{◌≡◌, ℕ, ◌+◌, ◌^◌, ◌<◌, ◌≤◌, true, false, ◌≢◌, bit_and, bit_or, count_ones};
-ghost use Rattle.common.specs.Limits.{mostPrincipals, mostRelated};
+ghost use Rattle.common.specs.Limits.{most_principals, most_related};
 ghost use Rattle.common.specs.Lists.{at};
 ghost use Rattle.common.specs.Sets.{In, Apart, Within};
-ghost use Rattle.search.specs.Answers.{foundValues};
+ghost use Rattle.search.specs.Answers.{found_values};
 ghost use Rattle.search.specs.Search.{ConsistentIn, Consistent, Met, Candidate, Least};
 ghost use Rattle.search.specs.Steps.{Decides, MetBy, Gathers, ConflictFree, NoneHolds, Asks, NoneFrom, NeededBy};
 ghost use Rattle.search.specs.Steps.{WithinFrom, Joins, State, Completed, OfSize};
@@ -81,7 +81,7 @@ fn within_from(a: u32, b: u32, n: usize) -> bool
 
 // The set s, of demarcations or principals, with p added.
 pub fn add(s: u32, p: usize) -> u32
-    requires { p < mostRelated }
+    requires { p < most_related }
     ensures { result ≡ bit_or s (2 ^ p) }
 {
     s | (1u32 << p)
@@ -89,8 +89,8 @@ pub fn add(s: u32, p: usize) -> u32
 
 // The set c with m added, whose members are above m.
 fn with(c: u32, m: usize) -> u32
-    requires m_lt_most_principals { m < mostPrincipals }
-    requires m_bound { c + 2 ^ m < 2 ^ mostPrincipals }
+    requires m_lt_most_principals { m < most_principals }
+    requires m_bound { c + 2 ^ m < 2 ^ most_principals }
     ensures { result ≡ c + 2 ^ m }
 {
     c + (1u32 << m)
@@ -105,7 +105,7 @@ fn role_count(role_principals: u32, s: u32) -> usize
 
 // How many role principals m is: 1 or 0.
 fn role_count_of(role_principals: u32, m: usize) -> usize
-    requires { m < mostPrincipals }
+    requires { m < most_principals }
     ensures { result ≡ count_ones (bit_and (2 ^ m) role_principals) }
 {
     let alone = with(0, m);
@@ -114,7 +114,7 @@ fn role_count_of(role_principals: u32, m: usize) -> usize
 
 // The set w with what m needs added.
 fn with_needs(masks: Masks, w: u32, m: usize) -> u32
-    requires { m < mostPrincipals }
+    requires { m < most_principals }
     ensures { result ≡ bit_or w (at masks.needs m) }
 {
     w | masks.needs[m]
@@ -135,7 +135,7 @@ pub fn meets(every: bool, wanted: u64, g: u64) -> bool
 
 // The privileges that the members of s below n list, where each demarcation or principal has its list.
 pub fn gathered(n: usize, s: u32, lists: [u64; MOST_RELATED]) -> u64
-    requires { n ≤ mostRelated }
+    requires { n ≤ most_related }
     ensures { Gathers n s lists result }
 {
     let mut g: u64 = 0;
@@ -151,7 +151,7 @@ pub fn gathered(n: usize, s: u32, lists: [u64; MOST_RELATED]) -> u64
 
 // The privileges that the members of s give.
 fn granted_by(masks: Masks, s: u32) -> u64
-    requires { masks.count ≤ mostPrincipals }
+    requires { masks.count ≤ most_principals }
     ensures { Gathers masks.count s masks.grants result }
 {
     let grants = masks.grants;
@@ -160,7 +160,7 @@ fn granted_by(masks: Masks, s: u32) -> u64
 
 // Whether p excludes no member of s, and all that p needs are members of s.
 pub fn consistent_in(masks: Masks, s: u32, p: usize) -> bool
-    requires { p < mostPrincipals }
+    requires { p < most_principals }
     ensures { Decides result (ConsistentIn masks s p) }
 {
     let excluded = masks.excludes[p];
@@ -173,7 +173,7 @@ pub fn consistent_in(masks: Masks, s: u32, p: usize) -> bool
 
 // Whether each member of s is consistent in s. Which principals are allowed makes no difference.
 pub fn consistent(masks: Masks, s: u32) -> bool
-    requires count_le_most_principals { masks.count ≤ mostPrincipals }
+    requires count_le_most_principals { masks.count ≤ most_principals }
     requires s_bound { s < 2 ^ masks.count }
     ensures { Decides result (Consistent masks s) }
 {
@@ -192,7 +192,7 @@ pub fn consistent(masks: Masks, s: u32) -> bool
 
 // Whether the members of s meet the guard. Which principals are allowed makes no difference.
 pub fn met(masks: Masks, s: u32) -> bool
-    requires count_le_most_principals { masks.count ≤ mostPrincipals }
+    requires count_le_most_principals { masks.count ≤ most_principals }
     requires s_bound { s < 2 ^ masks.count }
     ensures { Decides result (Met masks.every masks s) }
 {
@@ -202,7 +202,7 @@ pub fn met(masks: Masks, s: u32) -> bool
 
 // Whether s is a candidate.
 fn candidate(masks: Masks, s: u32) -> bool
-    requires count_le_most_principals { masks.count ≤ mostPrincipals }
+    requires count_le_most_principals { masks.count ≤ most_principals }
     requires s_bound { s < 2 ^ masks.count }
     ensures { Decides result (Candidate masks s) }
 {
@@ -220,7 +220,7 @@ fn candidate(masks: Masks, s: u32) -> bool
 
 // False only where some member of s is not allowed, or excludes another.
 fn allowed_together(masks: Masks, s: u32) -> bool
-    requires { masks.count ≤ mostPrincipals }
+    requires { masks.count ≤ most_principals }
     ensures { result ≡ false → Within s masks.allowed → ConflictFree masks s → ⊥ }
 {
     if !within(s, masks.allowed) {
@@ -241,7 +241,7 @@ fn allowed_together(masks: Masks, s: u32) -> bool
 
 // False only where no candidate within the limit holds s and none of barred: s is too large, barred, not allowed or in conflict.
 fn admissible(masks: Masks, limit: Limit, s: u32, barred: u32) -> bool
-    requires { masks.count ≤ mostPrincipals }
+    requires { masks.count ≤ most_principals }
     ensures { result ≡ false → NoneHolds masks limit s barred }
 {
     let size = u32::count_ones(s) as usize;
@@ -260,7 +260,7 @@ fn admissible(masks: Masks, limit: Limit, s: u32, barred: u32) -> bool
 // Of the wanted privileges that are not granted, one that fewest principals can give; eight givers and more are taken for at least four. Any
 // answer will do.
 fn rarest(masks: Masks, chosen: u32, granted: u64, barred: u32) -> u64
-    requires { masks.count ≤ mostPrincipals }
+    requires { masks.count ≤ most_principals }
 {
     let unmet = masks.wanted & !granted;
     let free = masks.allowed & !barred;
@@ -290,7 +290,7 @@ fn rarest(masks: Masks, chosen: u32, granted: u64, barred: u32) -> u64
 
 // What p gives, where p and those it needs are free, and it excludes none of these and of the chosen ones.
 fn open_grants(free: u32, chosen: u32, needs: u32, excludes: u32, grants: u64, p: usize) -> u64
-    requires { p < mostPrincipals }
+    requires { p < most_principals }
 {
     if has(free, p) {
         if within(needs, free) {
@@ -318,7 +318,7 @@ fn lowest(x: u64) -> u64 {
 
 // Privileges of which every candidate has a member that gives some.
 fn asked(masks: Masks, chosen: u32, granted: u64, barred: u32) -> u64
-    requires { (masks.count ≤ mostPrincipals) × (masks.wanted ≢ 0) }
+    requires { (masks.count ≤ most_principals) × (masks.wanted ≢ 0) }
     ensures { Asks masks result }
 {
     if masks.every {
@@ -341,7 +341,7 @@ fn possible(
     granted: u64,
     barred: u32,
 ) -> bool
-    requires { (masks.count ≤ mostPrincipals) × Gathers masks.count chosen masks.grants granted }
+    requires { (masks.count ≤ most_principals) × Gathers masks.count chosen masks.grants granted }
     ensures { result ≡ false → NoneHolds masks limit chosen barred }
 {
     if meets(masks.every, masks.wanted, granted) {
@@ -363,7 +363,7 @@ fn possible(
 
 // The first principal from p on that gives some of x; the count, or p where it is beyond, if there is none.
 fn next_giver(count: usize, grants: [u64; MOST_PRINCIPALS], x: u64, p: usize) -> usize
-    requires { count ≤ mostPrincipals }
+    requires { count ≤ most_principals }
     ensures { (p ≤ result) × ((q : ℕ) → p ≤ q → q < result → MetBy false x (at grants q) → ⊥) }
 {
     let mut g = p;
@@ -388,7 +388,7 @@ fn by_giver(
     x: u64,
     p: usize,
 ) -> bool
-    requires { (masks.count ≤ mostPrincipals) × (0 < depth) }
+    requires { (masks.count ≤ most_principals) × (0 < depth) }
     ensures { result ≡ false → NoneFrom masks limit chosen barred x p }
 {
     let grants = masks.grants;
@@ -408,7 +408,7 @@ fn by_giver(
 
 // False only where no candidate within the limit holds s and none of barred.
 fn feasible(masks: Masks, limit: Limit, s: u32, barred: u32) -> bool
-    requires { masks.count ≤ mostPrincipals }
+    requires { masks.count ≤ most_principals }
     ensures { result ≡ false → NoneHolds masks limit s barred }
 {
     if !admissible(masks, limit, s, barred) {
@@ -422,7 +422,7 @@ fn feasible(masks: Masks, limit: Limit, s: u32, barred: u32) -> bool
 
 // Whether m may stand with the set c, whose members are above m.
 fn joins(masks: Masks, c: u32, m: usize) -> bool
-    requires { m < mostPrincipals }
+    requires { m < most_principals }
     ensures { Decides result (Joins masks c m) }
 {
     if has(masks.allowed, m) {
@@ -438,7 +438,7 @@ fn joins(masks: Masks, c: u32, m: usize) -> bool
 
 // What the chosen ones come to with k more principals, j of them role principals.
 fn limit_with(role_principals: u32, chosen: u32, k: usize, j: usize) -> Limit
-    requires { (k ≤ mostPrincipals) × (j ≤ mostPrincipals) }
+    requires { (k ≤ most_principals) × (j ≤ most_principals) }
     ensures { (result.members ≡ count_ones chosen + k) × (result.role_principals ≡ count_ones (bit_and chosen role_principals) + j) }
 {
     Limit {
@@ -460,7 +460,7 @@ fn search(
 ) -> Found
     requires state { State masks n chosen barred }
     requires needed_by { NeededBy masks chosen needed }
-    ensures { Completed masks n k j chosen (foundValues result) }
+    ensures { Completed masks n k j chosen (found_values result) }
 {
     if k < j {
         return Found::Nothing;
@@ -524,8 +524,8 @@ fn fewest_roles(role_principals: u32, allowed: u32, k: usize) -> usize
 // The least candidate of k members: the fewest role principals first. Where sets of that size may differ in these, it is asked before
 // whether the size has a candidate at all, so that one without costs one test.
 fn of_size(masks: Masks, k: usize) -> Found
-    requires { (masks.count ≤ mostPrincipals) × (k ≤ mostPrincipals) }
-    ensures { OfSize masks k (foundValues result) }
+    requires { (masks.count ≤ most_principals) × (k ≤ most_principals) }
+    ensures { OfSize masks k (found_values result) }
 {
     let fewest = fewest_roles(masks.role_principals, masks.allowed, k);
     let most = most_roles(masks.role_principals, masks.allowed, k);
@@ -552,8 +552,8 @@ fn of_size(masks: Masks, k: usize) -> Found
 
 // The least candidate.
 pub fn least(masks: Masks) -> Found
-    requires { masks.count ≤ mostPrincipals }
-    ensures { Least masks (foundValues result) }
+    requires { masks.count ≤ most_principals }
+    ensures { Least masks (found_values result) }
 {
     let count = masks.count;
     let limit = Limit {

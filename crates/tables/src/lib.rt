@@ -1,10 +1,10 @@
 // Whether loading could have made a table of a record, kind by kind, on the table's lent columns: nothing is copied.
 
 ghost use Rattle.std.specs.Prelude.{◌≡◌, true, ◌&&◌, ◌≤◌};
-ghost use Rattle.closure.specs.Closure.{pairsOf, circular};
-ghost use Rattle.common.specs.Limits.{mostPrincipals};
-ghost use Rattle.tables.specs.Loads.{zeroFrom, usersLoad, edgesLoad, formulasLoad, demarcationsLoad, pairsLoad, principalsLoad};
-ghost use Rattle.tables.specs.Loads.{exclusionsLoad, methodsLoad, relationLoads};
+ghost use Rattle.closure.specs.Closure.{pairs_of, circular};
+ghost use Rattle.common.specs.Limits.{most_principals};
+ghost use Rattle.tables.specs.Loads.{zero_from, users_load, edges_load, formulas_load, demarcations_load, pairs_load, principals_load};
+ghost use Rattle.tables.specs.Loads.{exclusions_load, methods_load, relation_loads};
 
 use common::{
     MOST_DEMARCATIONS, MOST_EDGES, MOST_EXCLUSIONS, MOST_FORMULAS, MOST_METHODS, MOST_PAIRS,
@@ -15,7 +15,7 @@ pub mod columns;
 
 // The places of a column from count on are zero.
 fn zero_from(column: &[u8], count: usize) -> bool
-    ensures { result ≡ zeroFrom count column.now }
+    ensures { result ≡ zero_from count column.now }
 {
     let mut zero = true;
     let mut i = count;
@@ -27,7 +27,7 @@ fn zero_from(column: &[u8], count: usize) -> bool
 }
 
 fn zero_from_u16(column: &[u16], count: usize) -> bool
-    ensures { result ≡ zeroFrom count column.now }
+    ensures { result ≡ zero_from count column.now }
 {
     let mut zero = true;
     let mut i = count;
@@ -39,7 +39,7 @@ fn zero_from_u16(column: &[u16], count: usize) -> bool
 }
 
 fn zero_from_u64(column: &[u64], count: usize) -> bool
-    ensures { result ≡ zeroFrom count column.now }
+    ensures { result ≡ zero_from count column.now }
 {
     let mut zero = true;
     let mut i = count;
@@ -57,7 +57,7 @@ fn users_load<'a>(
     users: &'a [u8; MOST_USERS],
     roles: &'a [u16; MOST_USERS],
 ) -> bool
-    ensures { result ≡ usersLoad objects count users.now roles.now }
+    ensures { result ≡ users_load objects count users.now roles.now }
 {
     if MOST_USERS < count {
         return false;
@@ -84,7 +84,7 @@ fn edges_load<'a>(
     sources: &'a [u8; MOST_EDGES],
     targets: &'a [u8; MOST_EDGES],
 ) -> bool
-    ensures { result ≡ edgesLoad objects count labels.now sources.now targets.now }
+    ensures { result ≡ edges_load objects count labels.now sources.now targets.now }
 {
     if MOST_EDGES < count {
         return false;
@@ -113,7 +113,7 @@ fn formulas_load<'a>(
     lefts: &'a [u8; MOST_FORMULAS],
     rights: &'a [u8; MOST_FORMULAS],
 ) -> bool
-    ensures { result ≡ formulasLoad count ops.now lefts.now rights.now }
+    ensures { result ≡ formulas_load count ops.now lefts.now rights.now }
 {
     if MOST_FORMULAS < count {
         return false;
@@ -138,7 +138,7 @@ fn formulas_load<'a>(
 
 // Kind 05: no number of a demarcation is out of range, so only the count and the unused places are tested.
 fn demarcations_load<'a>(count: usize, privileges: &'a [u64; MOST_DEMARCATIONS]) -> bool
-    ensures { result ≡ demarcationsLoad count privileges.now }
+    ensures { result ≡ demarcations_load count privileges.now }
 {
     if MOST_DEMARCATIONS < count {
         return false;
@@ -153,7 +153,7 @@ fn pairs_load<'a>(
     firsts: &'a [u8; MOST_PAIRS],
     seconds: &'a [u8; MOST_PAIRS],
 ) -> bool
-    ensures { result ≡ pairsLoad things count firsts.now seconds.now }
+    ensures { result ≡ pairs_load things count firsts.now seconds.now }
 {
     if MOST_PAIRS < count {
         return false;
@@ -181,7 +181,7 @@ fn principals_load<'a>(
     grounds: &'a [u8; MOST_PRINCIPALS],
     ranks: &'a [u8; MOST_PRINCIPALS],
 ) -> bool
-    ensures { result ≡ principalsLoad formulas demarcations count grounds.now ranks.now }
+    ensures { result ≡ principals_load formulas demarcations count grounds.now ranks.now }
 {
     if MOST_PRINCIPALS < count {
         return false;
@@ -205,7 +205,7 @@ fn exclusions_load<'a>(
     lows: &'a [u8; MOST_EXCLUSIONS],
     highs: &'a [u8; MOST_EXCLUSIONS],
 ) -> bool
-    ensures { result ≡ exclusionsLoad principals count lows.now highs.now }
+    ensures { result ≡ exclusions_load principals count lows.now highs.now }
 {
     if MOST_EXCLUSIONS < count {
         return false;
@@ -231,7 +231,7 @@ fn methods_load<'a>(
     forms: &'a [u8; MOST_METHODS],
     privileges: &'a [u64; MOST_METHODS],
 ) -> bool
-    ensures { result ≡ methodsLoad count forms.now privileges.now }
+    ensures { result ≡ methods_load count forms.now privileges.now }
 {
     if MOST_METHODS < count {
         return false;
@@ -254,8 +254,8 @@ pub fn pairs_circular<'a>(
     firsts: &'a [u8; MOST_PAIRS],
     seconds: &'a [u8; MOST_PAIRS],
 ) -> bool
-    requires { (pairsLoad things count firsts.now seconds.now ≡ true) × (things ≤ mostPrincipals) }
-    ensures { result ≡ circular (pairsOf count firsts.now seconds.now) }
+    requires { (pairs_load things count firsts.now seconds.now ≡ true) × (things ≤ most_principals) }
+    ensures { result ≡ circular (pairs_of count firsts.now seconds.now) }
 {
     let relation = closure::related(firsts, seconds, count);
     closure::circular(relation, things)
@@ -268,8 +268,8 @@ fn relation_loads<'a>(
     firsts: &'a [u8; MOST_PAIRS],
     seconds: &'a [u8; MOST_PAIRS],
 ) -> bool
-    requires { things ≤ mostPrincipals }
-    ensures { result ≡ relationLoads things count firsts.now seconds.now }
+    requires { things ≤ most_principals }
+    ensures { result ≡ relation_loads things count firsts.now seconds.now }
 {
     if !pairs_load(things, count, firsts, seconds) {
         return false;
@@ -292,9 +292,9 @@ pub fn graph_loads<'a>(
     lefts: &'a [u8; MOST_FORMULAS],
     rights: &'a [u8; MOST_FORMULAS],
 ) -> bool
-    ensures { result ≡ (usersLoad objects users user_objects.now user_roles.now
-        && (edgesLoad objects edges labels.now sources.now targets.now
-        && formulasLoad formulas ops.now lefts.now rights.now)) }
+    ensures { result ≡ (users_load objects users user_objects.now user_roles.now
+        && (edges_load objects edges labels.now sources.now targets.now
+        && formulas_load formulas ops.now lefts.now rights.now)) }
 {
     let users_fit = users_load(objects, users, user_objects, user_roles);
     let edges_fit = edges_load(objects, edges, labels, sources, targets);
@@ -323,12 +323,12 @@ pub fn grounds_load<'a>(
     forms: &'a [u8; MOST_METHODS],
     privileges: &'a [u64; MOST_METHODS],
 ) -> bool
-    ensures { result ≡ ((demarcationsLoad demarcations lists.now
-        && (principalsLoad formulas demarcations principals grounds.now grants.now
-        && (exclusionsLoad principals exclusions lows.now highs.now
-        && methodsLoad methods forms.now privileges.now)))
-        && (relationLoads demarcations ranks inferiors.now superiors.now
-        && relationLoads principals needs prerequisites.now dependents.now)) }
+    ensures { result ≡ ((demarcations_load demarcations lists.now
+        && (principals_load formulas demarcations principals grounds.now grants.now
+        && (exclusions_load principals exclusions lows.now highs.now
+        && methods_load methods forms.now privileges.now)))
+        && (relation_loads demarcations ranks inferiors.now superiors.now
+        && relation_loads principals needs prerequisites.now dependents.now)) }
 {
     let lists_fit = demarcations_load(demarcations, lists);
     let grounds_fit = principals_load(formulas, demarcations, principals, grounds, grants);

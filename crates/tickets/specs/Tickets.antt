@@ -2,38 +2,38 @@
 use Rattle.std.specs.Prelude.{ℕ, ◌^◌, ◌≤◌, ◌≡◌, ◌↔◌, ◌⊎◌, Bool, false, not, cond, ◌&&◌, [], ◌∷◌, ltb, eqb}
 use Rattle.common.specs.Lists.{every}
 use Rattle.common.specs.Causes.{cause, first}
-use Rattle.common.specs.Refusals.{notEnabled, notConsistent, guardNotMet}
+use Rattle.common.specs.Refusals.{not_enabled, not_consistent, guard_not_met}
 use Rattle.common.specs.Sets.{In}
 use Rattle.policy.specs.declared.Record.{Record}
 use Rattle.justification.specs.declared.Question.{Question}
 use Rattle.justification.specs.Justification.{members, consistent, meets}
-use Rattle.justification.specs.Predicates.{questionRefusal, isEnabled}
+use Rattle.justification.specs.Predicates.{question_refusal, is_enabled}
 use Rattle.justification.specs.Satisfying.{IsConsistent, GuardMet, AllEnabled, Satisfies}
 use Rattle.tickets.specs.declared.Ticket.{Ticket}
 
-abbrev pub ticketOf : Question → ℕ → Ticket
-ticketOf q c = record { question = q; set = c }
+abbrev pub ticket_of : Question → ℕ → Ticket
+ticket_of q c = record { question = q; set = c }
 
 -- "21 for a set that isn't consistent, 22 for a guard not met", of method m, "tested in that order"
-unfoldable pub constraintRefusal : Record → ℕ → ℕ → ℕ
-constraintRefusal r m c = first (cause notConsistent (not (consistent r c)) ∷ cause guardNotMet (not (meets r m (members r c))) ∷ [])
+unfoldable pub constraint_refusal : Record → ℕ → ℕ → ℕ
+constraint_refusal r m c = first (cause not_consistent (not (consistent r c)) ∷ cause guard_not_met (not (meets r m (members r c))) ∷ [])
 
 -- before these, "20 for a member that is no principal or isn't enabled"
-unfoldable pub setRefusal : Record → (ℕ → Bool) → ℕ → ℕ → ℕ
-setRefusal r enabled m c =
-    cond (ltb c (2 ^ r.principal_count) && every enabled (members r c)) (constraintRefusal r m c) notEnabled
+unfoldable pub set_refusal : Record → (ℕ → Bool) → ℕ → ℕ → ℕ
+set_refusal r enabled m c =
+    cond (ltb c (2 ^ r.principal_count) && every enabled (members r c)) (constraint_refusal r m c) not_enabled
 
 -- 20 to 22 are "after 19 and 14 to 16": what refuses the question, if anything does, comes first
-abbrev pub afterQuestion : ℕ → ℕ → ℕ
-afterQuestion refusal n = cond (eqb refusal 0) n refusal
+abbrev pub after_question : ℕ → ℕ → ℕ
+after_question refusal n = cond (eqb refusal 0) n refusal
 
--- "The checker evaluates afresh": `isEnabled` reads no memo
-unfoldable pub ticketRefusal : Record → Ticket → ℕ
-ticketRefusal r t =
+-- "The checker evaluates afresh": `is_enabled` reads no memo
+unfoldable pub ticket_refusal : Record → Ticket → ℕ
+ticket_refusal r t =
     let q = t.question in
-    afterQuestion (questionRefusal r q) (setRefusal r (isEnabled r q) q.method t.set)
+    after_question (question_refusal r q) (set_refusal r (is_enabled r q) q.method t.set)
 
--- ---- the same in quantifiers (`TicketLaws` `set-number`)
+-- ---- the same in quantifiers (`TicketLaws` `set_number`)
 
 -- "a member that is no principal or isn't enabled"
 pub record Unfit (r : Record) (enabled : ℕ → Bool) (c : ℕ) : Type 0 where
@@ -45,6 +45,6 @@ pub record Unfit (r : Record) (enabled : ℕ → Bool) (c : ℕ) : Type 0 where
 -- principal and enabled, the set is consistent, and it meets the guard"; else "20 .., 21 .., 22 .., tested in that order"
 pub record SetNumber (r : Record) (enabled : ℕ → Bool) (m c n : ℕ) : Type 0 where
   pub accepted : (n ≡ 0) ↔ Satisfies r enabled m c
-  pub unfit : (n ≡ notEnabled) ↔ Unfit r enabled c
-  pub inconsistent : (n ≡ notConsistent) ↔ (AllEnabled r enabled c × (IsConsistent r c → ⊥))
-  pub unmet : (n ≡ guardNotMet) ↔ (AllEnabled r enabled c × IsConsistent r c × (GuardMet r m c → ⊥))
+  pub unfit : (n ≡ not_enabled) ↔ Unfit r enabled c
+  pub inconsistent : (n ≡ not_consistent) ↔ (AllEnabled r enabled c × (IsConsistent r c → ⊥))
+  pub unmet : (n ≡ guard_not_met) ↔ (AllEnabled r enabled c × IsConsistent r c × (GuardMet r m c → ⊥))

@@ -2,15 +2,15 @@
 // neither read nor changed.
 
 ghost use Rattle.std.specs.Prelude.{◌≡◌, true, ℕ, ◌^◌, ◌≤◌, ◌<◌, ltb};
-ghost use Rattle.common.specs.Limits.{mostPrincipals};
+ghost use Rattle.common.specs.Limits.{most_principals};
 ghost use Rattle.common.specs.Lists.{every};
 ghost use Rattle.policy.specs.declared.Record as records;
 ghost use Rattle.policy.specs.Loadable as validity;
 ghost use Rattle.policy.specs.Typed.{Typed};
 ghost use Rattle.justification.specs.Justification.{members};
-ghost use Rattle.justification.specs.Predicates.{isEnabled};
+ghost use Rattle.justification.specs.Predicates.{is_enabled};
 ghost use Rattle.justification.specs.Masked.{Masked};
-ghost use Rattle.tickets.specs.Tickets.{constraintRefusal, ticketRefusal};
+ghost use Rattle.tickets.specs.Tickets.{constraint_refusal, ticket_refusal};
 
 use justification::Question;
 use policy::Record;
@@ -32,7 +32,7 @@ fn index(x: u8) -> usize
 
 // Whether every member of the set is a principal, of so many.
 fn are_principals(count: usize, set: u32) -> bool
-    requires { count ≤ mostPrincipals }
+    requires { count ≤ most_principals }
     ensures { result ≡ ltb set (2 ^ count) }
 {
     set >> count == 0
@@ -41,7 +41,7 @@ fn are_principals(count: usize, set: u32) -> bool
 // Whether every member that is a principal is enabled. Only the members' formulas are evaluated, and none once one is false.
 fn are_enabled(rules: Record, question: Question, set: u32) -> bool
     requires { validity.loadable rules ≡ true }
-    ensures { result ≡ every (isEnabled rules question) (members rules set) }
+    ensures { result ≡ every (is_enabled rules question) (members rules set) }
 {
     let n = rules.principal_count;
     let object = question.object;
@@ -84,8 +84,8 @@ fn are_enabled(rules: Record, question: Question, set: u32) -> bool
 
 // 21 where the set is not consistent, then 22 where its members do not meet the guard; else 0. All are principals of the masks' record.
 fn constraint_refusal(masks: Masks, set: u32) -> u8
-    requires { (masks.count ≤ mostPrincipals) × (set < 2 ^ masks.count) }
-    ensures { (rules : records.Record) (m a : ℕ) → Masked rules m a masks → result ≡ constraintRefusal rules m set }
+    requires { (masks.count ≤ most_principals) × (set < 2 ^ masks.count) }
+    ensures { (rules : records.Record) (m a : ℕ) → Masked rules m a masks → result ≡ constraint_refusal rules m set }
 {
     if !search::consistent(masks, set) {
         return common::NOT_CONSISTENT;
@@ -99,7 +99,7 @@ fn constraint_refusal(masks: Masks, set: u32) -> u8
 // Checks a ticket: 19, 14, 15 or 16 for its question; 20 for a member that is no principal or isn't enabled, 21 for a set that isn't
 // consistent, 22 for a guard not met; 0 where it is accepted.
 pub fn check(rules: Record, ticket: Ticket) -> u8
-    ensures { (result ≡ ticketRefusal rules ticket) × Typed rules }
+    ensures { (result ≡ ticket_refusal rules ticket) × Typed rules }
 {
     let loads = policy::loadable::loadable(rules);
     check_given(rules, loads, ticket)
@@ -108,7 +108,7 @@ pub fn check(rules: Record, ticket: Ticket) -> u8
 // The same, where it is known whether some bundle loads to the record.
 pub fn check_given(rules: Record, loads: bool, ticket: Ticket) -> u8
     requires { loads ≡ validity.loadable rules }
-    ensures { result ≡ ticketRefusal rules ticket }
+    ensures { result ≡ ticket_refusal rules ticket }
 {
     let question = ticket.question;
     let set = ticket.set;

@@ -8,18 +8,18 @@ use lib.Dec.{eqb, ltb}
 use borrow.Author.Tests.{eq-eqb, ne_eqb, lt-ltb, le-ltb}
 use Rattle.vertices.specs.Steps.{placed}
 
-pub placed-everywhere : (w v : ℕ) → w ≡ 257 → placed w v ≡ true
-placed-everywhere w v e = rw (eq-eqb w 257 e)
+pub placed_everywhere : (w v : ℕ) → w ≡ 257 → placed w v ≡ true
+placed_everywhere w v e = rw (eq-eqb w 257 e)
 
 pub placed_one : (w v : ℕ) → w < 256 → placed w v ≡ eqb v w
 placed_one w v l = rw (ne_eqb w 257 (λ e. omega arith), lt-ltb w 256 l)
 
-pub placed-nowhere : (w v : ℕ) → (w ≡ 257 → ⊥) → 256 ≤ w → placed w v ≡ false
-placed-nowhere w v n l = rw (ne_eqb w 257 n, le-ltb w 256 l)
+pub placed_nowhere : (w v : ℕ) → (w ≡ 257 → ⊥) → 256 ≤ w → placed w v ≡ false
+placed_nowhere w v n l = rw (ne_eqb w 257 n, le-ltb w 256 l)
 
 -- of a vertex it is enough that the numbers are the same
-pub placed-vertex : (w y : ℕ) → y < 256 → (eqb w 257 || eqb w y) ≡ placed w y
-placed-vertex w y l = go (ℕ_discrete w y)
+pub placed_vertex : (w y : ℕ) → y < 256 → (eqb w 257 || eqb w y) ≡ placed w y
+placed_vertex w y l = go (ℕ_discrete w y)
   where
     go : Dec (w ≡ y) → (eqb w 257 || eqb w y) ≡ placed w y
     go (yes e) = rw (eq-eqb w y e, eq-eqb y w (sym e), lt-ltb w 256 (omega arith)) refl

@@ -11,77 +11,77 @@ use lib.Seq.{get_or-set_same, get_or-set_other}
 use lib.Dec.{eqb}
 use borrow.Author.Count.{below_more}
 use borrow.Author.Tests.{eq-eqb, ne_eqb}
-use Rattle.common.specs.BoolLaws.{and-true, and-false}
-use Rattle.vertices.specs.Steps.{isIn}
+use Rattle.common.specs.BoolLaws.{and_true, and_false}
+use Rattle.vertices.specs.Steps.{is_in}
 
 -- every entry of a table of n is false
-pub all-false : (n v : ℕ) → isIn (replicate n false) v ≡ false
-all-false zero v = refl
-all-false (suc n) zero = refl
-all-false (suc n) (suc v) = all-false n v
+pub all_false : (n v : ℕ) → is_in (replicate n false) v ≡ false
+all_false zero v = refl
+all_false (suc n) zero = refl
+all_false (suc n) (suc v) = all_false n v
 
 -- every entry of a table of n is true
-pub all_true : (n v : ℕ) → v < n → isIn (replicate n true) v ≡ true
+pub all_true : (n v : ℕ) → v < n → is_in (replicate n true) v ≡ true
 all_true zero v l = absurd (not-suc-le-zero l)
 all_true (suc n) zero l = refl
 all_true (suc n) (suc v) l = all_true n v (le_of_suc-le-suc l)
 
 -- what stands at v after b is stored at y
-pub stored : (r : List Bool) (y : ℕ) (b : Bool) (v : ℕ) → y < length r → isIn (set r y b) v ≡ cond (eqb y v) b (isIn r v)
+pub stored : (r : List Bool) (y : ℕ) (b : Bool) (v : ℕ) → y < length r → is_in (set r y b) v ≡ cond (eqb y v) b (is_in r v)
 stored r y b v h = go (ℕ_discrete y v)
   where
-    go : Dec (y ≡ v) → isIn (set r y b) v ≡ cond (eqb y v) b (isIn r v)
+    go : Dec (y ≡ v) → is_in (set r y b) v ≡ cond (eqb y v) b (is_in r v)
     go (yes e) = rw (eq-eqb y v e, ← e) (get_or-set_same r y b false h)
     go (no n) = rw (ne_eqb y v n) (get_or-set_other r y v b false (λ e. n (sym e)))
 
 -- a table that is filled from the front with q
-pub filled : (q : ℕ → Bool) (r : List Bool) (i : ℕ) → i < length r → ((v : ℕ) → v < i → isIn r v ≡ q v)
-    → (v : ℕ) → v < i + 1 → isIn (set r i (q i)) v ≡ q v
+pub filled : (q : ℕ → Bool) (r : List Bool) (i : ℕ) → i < length r → ((v : ℕ) → v < i → is_in r v ≡ q v)
+    → (v : ℕ) → v < i + 1 → is_in (set r i (q i)) v ≡ q v
 filled q r i h done =
-    below_more (λ (v : ℕ). isIn (set r i (q i)) v ≡ q v) i
+    below_more (λ (v : ℕ). is_in (set r i (q i)) v ≡ q v) i
     (λ v l. get_or-set_other r i v (q i) false (λ e. lt_irrefl v (subst (λ (k : ℕ). v < k) (sym e) l)) ∙ done v l)
     (get_or-set_same r i (q i) false h)
 
 -- a table that is filled from the front with q, and is false from i on
 pub record FilledTo (q : ℕ → Bool) (r : List Bool) (i : ℕ) : Type 0 where
-  pub done : (v : ℕ) → v < i → isIn r v ≡ q v
-  pub rest : (v : ℕ) → i ≤ v → isIn r v ≡ false
+  pub done : (v : ℕ) → v < i → is_in r v ≡ q v
+  pub rest : (v : ℕ) → i ≤ v → is_in r v ≡ false
 
-pub filled_none : (q : ℕ → Bool) (r : List Bool) → ((v : ℕ) → isIn r v ≡ false) → FilledTo q r 0
+pub filled_none : (q : ℕ → Bool) (r : List Bool) → ((v : ℕ) → is_in r v ≡ false) → FilledTo q r 0
 filled_none q r h = record { done = λ v l. absurd (not-suc-le-zero l); rest = λ v l. h v }
 
 pub filled_more : (q : ℕ → Bool) (r : List Bool) (i : ℕ) (b : Bool) → b ≡ q i → i < length r → FilledTo q r i → FilledTo q (set r i b) (i + 1)
 filled_more q r i b e h f =
     record {
-      done = λ v l. ap (λ (x : Bool). isIn (set r i x) v) e ∙ filled q r i h f.done v l;
+      done = λ v l. ap (λ (x : Bool). is_in (set r i x) v) e ∙ filled q r i h f.done v l;
       rest = λ v l. get_or-set_other r i v b false (λ p. omega arith) ∙ f.rest v (omega arith);
     }
 
 -- where q is false nothing need be stored
-pub filled-skip : (q : ℕ → Bool) (r : List Bool) (i : ℕ) → q i ≡ false → FilledTo q r i → FilledTo q r (i + 1)
-filled-skip q r i e f =
+pub filled_skip : (q : ℕ → Bool) (r : List Bool) (i : ℕ) → q i ≡ false → FilledTo q r i → FilledTo q r (i + 1)
+filled_skip q r i e f =
     record {
-      done = below_more (λ (v : ℕ). isIn r v ≡ q v) i f.done (f.rest i (omega arith) ∙ sym e);
+      done = below_more (λ (v : ℕ). is_in r v ≡ q v) i f.done (f.rest i (omega arith) ∙ sym e);
       rest = λ v l. f.rest v (omega arith);
     }
 
 -- x alone of a table
-pub picked : (s : List Bool) (x v : ℕ) → cond (eqb x v) (isIn s x) false ≡ (isIn s v && eqb v x)
+pub picked : (s : List Bool) (x v : ℕ) → cond (eqb x v) (is_in s x) false ≡ (is_in s v && eqb v x)
 picked s x v = go (ℕ_discrete x v)
   where
-    go : Dec (x ≡ v) → cond (eqb x v) (isIn s x) false ≡ (isIn s v && eqb v x)
-    go (yes e) = rw (eq-eqb x v e, eq-eqb v x (sym e), and-true, e)
-    go (no n) = rw (ne_eqb x v n, ne_eqb v x (λ e. n (sym e)), and-false)
+    go : Dec (x ≡ v) → cond (eqb x v) (is_in s x) false ≡ (is_in s v && eqb v x)
+    go (yes e) = rw (eq-eqb x v e, eq-eqb v x (sym e), and_true, e)
+    go (no n) = rw (ne_eqb x v n, ne_eqb v x (λ e. n (sym e)), and_false)
 
 -- past its end a table is false
-pub beyond : (s : List Bool) (n v : ℕ) → length s ≡ n → n ≤ v → isIn s v ≡ false
+pub beyond : (s : List Bool) (n v : ℕ) → length s ≡ n → n ≤ v → is_in s v ≡ false
 beyond s n v e h = get_or-eq_default s false (subst (λ (k : ℕ). k ≤ v) (sym e) h)
 
 -- a table of 256 is q, where it is q at each of its indices and q is false past them
-pub everywhere : (q : ℕ → Bool) (r : List Bool) → length r ≡ 256 → ((v : ℕ) → v < 256 → isIn r v ≡ q v)
-    → ((v : ℕ) → 256 ≤ v → q v ≡ false) → (v : ℕ) → isIn r v ≡ q v
+pub everywhere : (q : ℕ → Bool) (r : List Bool) → length r ≡ 256 → ((v : ℕ) → v < 256 → is_in r v ≡ q v)
+    → ((v : ℕ) → 256 ≤ v → q v ≡ false) → (v : ℕ) → is_in r v ≡ q v
 everywhere q r e inside outside v = go (dec_lt v 256)
   where
-    go : Dec (v < 256) → isIn r v ≡ q v
+    go : Dec (v < 256) → is_in r v ≡ q v
     go (yes l) = inside v l
     go (no n) = let h : 256 ≤ v = omega arith in beyond r 256 v e h ∙ sym (outside v h)

@@ -7,29 +7,29 @@ abbrev pub leads : List (List ℕ) → ℕ → ℕ → ℕ → (ℕ → Bool) �
 leads es i j a p here = any (λ e. eqb (at e 0) a && (eqb (at e i) here && p (at e j))) es
 
 -- the first n edges in columns
-abbrev pub edgesIn : ℕ → List ℕ → List ℕ → List ℕ → List (List ℕ)
-edgesIn n labels from to = table n (λ i. at labels i ∷ at from i ∷ at to i ∷ [])
+abbrev pub edges_in : ℕ → List ℕ → List ℕ → List ℕ → List (List ℕ)
+edges_in n labels from to = table n (λ i. at labels i ∷ at from i ∷ at to i ∷ [])
 
 -- v is in the set
-abbrev pub isIn : List Bool → ℕ → Bool
-isIn t v = get_or t v false
+abbrev pub is_in : List Bool → ℕ → Bool
+is_in t v = get_or t v false
 
 -- numbers in place of a vertex: no vertex, and every one
-abbrev pub noVertex : ℕ
-noVertex = 256
+abbrev pub no_vertex : ℕ
+no_vertex = 256
 
-abbrev pub everyVertex : ℕ
-everyVertex = 257
+abbrev pub every_vertex : ℕ
+every_vertex = 257
 
 -- v is where the number w says: it is w, or w is every vertex
 abbrev pub placed : ℕ → ℕ → Bool
-placed w v = eqb w everyVertex || (ltb w noVertex && eqb v w)
+placed w v = eqb w every_vertex || (ltb w no_vertex && eqb v w)
 
 -- r has, of the asked vertices, those where p holds
 pub record Among (asked : List Bool) (p : ℕ → Bool) (r : List Bool) : Type 0 where
-  pub members : (v : ℕ) → isIn r v ≡ (isIn asked v && p v)
+  pub members : (v : ℕ) → is_in r v ≡ (is_in asked v && p v)
 
 -- r says whether the set has a vertex
 pub record HasMember (s : List Bool) (r : Bool) : Type 0 where
-  pub none : r ≡ false → (v : ℕ) → isIn s v ≡ false
-  pub some : r ≡ true → (v : ℕ) × (isIn s v ≡ true)
+  pub none : r ≡ false → (v : ℕ) → is_in s v ≡ false
+  pub some : r ≡ true → (v : ℕ) × (is_in s v ≡ true)

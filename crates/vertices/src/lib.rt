@@ -4,11 +4,11 @@
 // there, which stand together and are found by halving.
 
 ghost use Rattle.std.specs.Prelude.{◌≡◌, Bool, true, false, not, ◌&&◌, ◌||◌, List, ℕ, ◌≤◌, ◌<◌, length, eqb, ltb};
-ghost use Rattle.common.specs.Limits.{mostEdges};
+ghost use Rattle.common.specs.Limits.{most_edges};
 ghost use Rattle.common.specs.Halving.{Parted};
-ghost use Rattle.edge_index.specs.Spans.{placeAt, Listed, Passable};
-ghost use Rattle.vertices.specs.Steps.{isIn, noVertex, placed, Among, HasMember, leads, edgesIn};
-ghost use Rattle.vertices.specs.Passes.{vertexAt, OwnEdges, StartsAt};
+ghost use Rattle.edge_index.specs.Spans.{place_at, Listed, Passable};
+ghost use Rattle.vertices.specs.Steps.{is_in, no_vertex, placed, Among, HasMember, leads, edges_in};
+ghost use Rattle.vertices.specs.Passes.{vertex_at, OwnEdges, StartsAt};
 
 use common::MOST_EDGES;
 
@@ -41,14 +41,14 @@ fn number(x: u8) -> u16
 
 // No vertex.
 pub fn none() -> Vertices
-    ensures { (length result ≡ 256) × ((v : ℕ) → isIn result v ≡ false) }
+    ensures { (length result ≡ 256) × ((v : ℕ) → is_in result v ≡ false) }
 {
     [false; 256]
 }
 
 // Every vertex.
 pub fn all() -> Vertices
-    ensures { (v : ℕ) → v < 256 → isIn result v ≡ true }
+    ensures { (v : ℕ) → v < 256 → is_in result v ≡ true }
 {
     [true; 256]
 }
@@ -115,7 +115,7 @@ pub fn asked_if<'a>(asked: &'a Vertices, b: bool) -> Vertices
 
 // Of the asked vertices those not in t.
 pub fn minus(asked: Vertices, t: Vertices) -> Vertices
-    ensures { Among asked (λ v. not (isIn t v)) result }
+    ensures { Among asked (λ v. not (is_in t v)) result }
 {
     let mut r = none();
     let mut i = 0;
@@ -128,7 +128,7 @@ pub fn minus(asked: Vertices, t: Vertices) -> Vertices
 
 // The vertices of a and of b.
 pub fn union(a: Vertices, b: Vertices) -> Vertices
-    ensures { (v : ℕ) → isIn result v ≡ (isIn a v || isIn b v) }
+    ensures { (v : ℕ) → is_in result v ≡ (is_in a v || is_in b v) }
 {
     let mut r = none();
     let mut i = 0;
@@ -150,8 +150,8 @@ fn wide(x: u16) -> usize
 
 // The place of the edge at position p of the order that the step goes by.
 fn edge_at<'a>(backward: bool, places: &'a [u16; MOST_EDGES], p: usize) -> usize
-    requires { (p < mostEdges) × (placeAt backward places.now p < mostEdges) }
-    ensures { (result ≡ placeAt backward places.now p) × (result < mostEdges) }
+    requires { (p < most_edges) × (place_at backward places.now p < most_edges) }
+    ensures { (result ≡ place_at backward places.now p) × (result < most_edges) }
 {
     if backward {
         return wide(places[p]);
@@ -169,7 +169,7 @@ pub fn first_from<'a>(
     x: u8,
 ) -> usize
     requires { Passable starts.now places.now backward first stop }
-    ensures { Parted (vertexAt starts.now backward places.now) x first stop result result }
+    ensures { Parted (vertex_at starts.now backward places.now) x first stop result result }
 {
     let mut low = first;
     let mut high = stop;
@@ -196,8 +196,8 @@ pub fn reached_from<'a, 'b>(
     asked: &'b Vertices,
 ) -> Vertices
     requires { Passable starts.now places.now backward first stop }
-    ensures { (n : ℕ) (labels : List ℕ) (l : ℕ) → Listed n labels l first stop (placeAt backward places.now)
-        → (v : ℕ) → isIn result v ≡ leads (edgesIn n labels starts.now ends.now) 2 1 l (isIn asked.now) v }
+    ensures { (n : ℕ) (labels : List ℕ) (l : ℕ) → Listed n labels l first stop (place_at backward places.now)
+        → (v : ℕ) → is_in result v ≡ leads (edges_in n labels starts.now ends.now) 2 1 l (is_in asked.now) v }
 {
     let mut r = none();
     let mut p = first;
@@ -227,8 +227,8 @@ pub fn reached_from_one<'a>(
     own: usize,
 ) -> Vertices
     requires { OwnEdges starts.now places.now backward first stop x own }
-    ensures { (n : ℕ) (labels : List ℕ) (l : ℕ) → Listed n labels l first stop (placeAt backward places.now)
-        → (v : ℕ) → isIn result v ≡ leads (edgesIn n labels starts.now ends.now) 2 1 l (λ u. eqb u x) v }
+    ensures { (n : ℕ) (labels : List ℕ) (l : ℕ) → Listed n labels l first stop (place_at backward places.now)
+        → (v : ℕ) → is_in result v ≡ leads (edges_in n labels starts.now ends.now) 2 1 l (λ u. eqb u x) v }
 {
     let mut r = none();
     let mut p = own;
@@ -257,9 +257,9 @@ pub fn leads_to<'a>(
     w: u16,
 ) -> bool
     requires { OwnEdges starts.now places.now backward first stop x own }
-    ensures { (n : ℕ) (labels : List ℕ) (l : ℕ) → Listed n labels l first stop (placeAt backward places.now)
+    ensures { (n : ℕ) (labels : List ℕ) (l : ℕ) → Listed n labels l first stop (place_at backward places.now)
         → (P : ℕ → Bool) → ((v : ℕ) → placed w v ≡ P v)
-        → result ≡ leads (edgesIn n labels starts.now ends.now) 1 2 l P x }
+        → result ≡ leads (edges_in n labels starts.now ends.now) 1 2 l P x }
 {
     let mut p = own;
     while p < stop {
@@ -308,9 +308,9 @@ pub fn only_end<'a>(
     own: usize,
 ) -> u16
     requires { OwnEdges starts.now places.now backward first stop x own }
-    ensures { (n : ℕ) (labels : List ℕ) (l : ℕ) → Listed n labels l first stop (placeAt backward places.now)
-        → (P : ℕ → Bool) → result ≤ noVertex
-        → leads (edgesIn n labels starts.now ends.now) 1 2 l P x ≡ (ltb result noVertex && P result) }
+    ensures { (n : ℕ) (labels : List ℕ) (l : ℕ) → Listed n labels l first stop (place_at backward places.now)
+        → (P : ℕ → Bool) → result ≤ no_vertex
+        → leads (edges_in n labels starts.now ends.now) 1 2 l P x ≡ (ltb result no_vertex && P result) }
 {
     if !starts_at(starts, places, backward, first, stop, x, own) {
         return NO_VERTEX;
@@ -337,9 +337,9 @@ pub fn starts_to<'a, 'b, 'c>(
     found: &'c Vertices,
 ) -> Vertices
     requires { Passable starts.now places.now backward first stop }
-    ensures { (n : ℕ) (labels : List ℕ) (l : ℕ) → Listed n labels l first stop (placeAt backward places.now)
-        → (P : ℕ → Bool) → ((v : ℕ) → v < 256 → isIn found.now v ≡ P v)
-        → Among asked.now (leads (edgesIn n labels starts.now ends.now) 1 2 l P) result }
+    ensures { (n : ℕ) (labels : List ℕ) (l : ℕ) → Listed n labels l first stop (place_at backward places.now)
+        → (P : ℕ → Bool) → ((v : ℕ) → v < 256 → is_in found.now v ≡ P v)
+        → Among asked.now (leads (edges_in n labels starts.now ends.now) 1 2 l P) result }
 {
     let mut r = none();
     let mut p = first;

@@ -8,7 +8,7 @@ use lib.ListN.{length, take}
 use lib.Seq.{take-suc, take_all}
 use Rattle.common.specs.Lists.{at}
 use Rattle.octets.specs.Line.{total, check, framed}
-use Rattle.octets.specs.WritingLaws.{total-append}
+use Rattle.octets.specs.WritingLaws.{total_append}
 
 -- the length, the kind and so many octets of the body have been added
 pub record Summed (kind : ℕ) (body : List ℕ) (sum i : ℕ) : Type 0 where
@@ -16,24 +16,24 @@ pub record Summed (kind : ℕ) (body : List ℕ) (sum i : ℕ) : Type 0 where
   pub small : sum ≤ length body + kind + 255 * i
   pub within : i ≤ length body
 
-pub summed-none : (kind : ℕ) (body : List ℕ) → Summed kind body (length body + kind) 0
-summed-none kind body = record { added = omega arith; small = omega arith; within = omega arith }
+pub summed_none : (kind : ℕ) (body : List ℕ) → Summed kind body (length body + kind) 0
+summed_none kind body = record { added = omega arith; small = omega arith; within = omega arith }
 
-pub summed-more : {kind sum i o : ℕ} {body : List ℕ} → Summed kind body sum i → i < length body → o ≡ at body i → o ≤ 255
+pub summed_more : {kind sum i o : ℕ} {body : List ℕ} → Summed kind body sum i → i < length body → o ≡ at body i → o ≤ 255
     → Summed kind body (sum + o) (i + 1)
-summed-more {kind} {sum} {i} {o} {body} s l e h =
+summed_more {kind} {sum} {i} {o} {body} s l e h =
     let t : total (take (i + 1) body) ≡ total (take i body) + (at body i + 0) =
-    ap (λ (n : ℕ). total (take n body)) (add-one i) ∙ ap total (take-suc body i 0 l) ∙ total-append (take i body) (at body i ∷ []) in
+    ap (λ (n : ℕ). total (take n body)) (add-one i) ∙ ap total (take-suc body i 0 l) ∙ total_append (take i body) (at body i ∷ []) in
     record { added = omega (arith, s.added, t, e); small = omega (arith, s.small); within = omega arith }
 
-pub summed-all : {kind sum i : ℕ} {body : List ℕ} → Summed kind body sum i → length body ≤ i
+pub summed_all : {kind sum i : ℕ} {body : List ℕ} → Summed kind body sum i → length body ≤ i
     → sum + (256 - sum % 256) % 256 ≡ total (framed kind body)
 unfolding framed
-summed-all {kind} {sum} {i} {body} s l =
+summed_all {kind} {sum} {i} {body} s l =
     let whole : take i body ≡ body = take_all i body l in
     let t : total (take i body) ≡ total body = ap total whole in
     let n : sum ≡ length body + (kind + total body) = omega (arith, s.added) in
     let c = check (length body + (kind + total body)) in
-    let u : total (body ++ (c ∷ [])) ≡ total body + (c + 0) = total-append body _ in
+    let u : total (body ++ (c ∷ [])) ≡ total body + (c + 0) = total_append body _ in
     let m : (256 - sum % 256) % 256 ≡ c = ap check n in
     omega (arith, u, m, n)

@@ -3,9 +3,9 @@
 ghost use Rattle.std.specs.Prelude.{◌≡◌, [], ◌∷◌, ◌+◌, ◌*◌, ◌≤◌, length};
 ghost use Rattle.common.specs.Lists.{table};
 ghost use Rattle.octets.specs.Line.{total, framed};
-ghost use Rattle.octets.specs.Number.{inOctets};
-ghost use Rattle.writing.specs.Drafts.{longestBody, greatestTotal, RoomFor, Put};
-ghost use Rattle.writing.specs.Drafts.{pairLine, tripleLine, userLine, demarcationLine, methodLine};
+ghost use Rattle.octets.specs.Number.{in_octets};
+ghost use Rattle.writing.specs.Drafts.{longest_body, greatest_total, RoomFor, Put};
+ghost use Rattle.writing.specs.Drafts.{pair_line, triple_line, user_line, demarcation_line, method_line};
 
 // How far writing has come: the offset of the next line, how many lines were written, and the plain sum of their octets.
 #[derive(Drop)]
@@ -24,8 +24,8 @@ fn number_of(octet: u8) -> usize
 
 // The plain sum of the octets of a line, the check octet included.
 fn line_total(kind: u8, body: &[u8]) -> usize
-    requires { length body.now ≤ longestBody }
-    ensures { (result ≡ total (framed kind body.now)) × (result ≤ greatestTotal) }
+    requires { length body.now ≤ longest_body }
+    ensures { (result ≡ total (framed kind body.now)) × (result ≤ greatest_total) }
 {
     let mut sum = body.len() + (kind as usize);
     let mut i = 0;
@@ -38,7 +38,7 @@ fn line_total(kind: u8, body: &[u8]) -> usize
 
 // Writes one line of a kind into the rest of the buffer, from the draft's offset on.
 pub fn put_line(buffer: &mut [u8], from: Draft, kind: u8, body: &[u8]) -> Draft
-    requires { (length body.now ≤ longestBody) × RoomFor buffer.old from 1 (2 * length body.now + 7) }
+    requires { (length body.now ≤ longest_body) × RoomFor buffer.old from 1 (2 * length body.now + 7) }
     ensures { Put buffer.old buffer.new from result (framed kind body.now ∷ []) }
 {
     let offset = from.offset;
@@ -64,7 +64,7 @@ pub fn put_pairs<'a>(
 ) -> Draft
     requires { (count ≤ length firsts.now) × (count ≤ length seconds.now) × RoomFor buffer.old from count 11 }
     ensures { Put buffer.old buffer.new from result
-        (table count (pairLine kind firsts.now seconds.now)) }
+        (table count (pair_line kind firsts.now seconds.now)) }
 {
     let mut draft = from;
     let mut i = 0;
@@ -90,7 +90,7 @@ pub fn put_triples<'a>(
     requires { (count ≤ length firsts.now) × (count ≤ length seconds.now) × (count ≤ length thirds.now)
         × RoomFor buffer.old from count 13 }
     ensures { Put buffer.old buffer.new from result
-        (table count (tripleLine kind firsts.now seconds.now thirds.now)) }
+        (table count (triple_line kind firsts.now seconds.now thirds.now)) }
 {
     let mut draft = from;
     let mut i = 0;
@@ -105,7 +105,7 @@ pub fn put_triples<'a>(
 
 // The body of a user line: an object, and its roles in 2 octets.
 fn user_body(object: u8, roles: u16) -> [u8; 3]
-    ensures { result ≡ object ∷ inOctets 2 roles }
+    ensures { result ≡ object ∷ in_octets 2 roles }
 {
     [object, (roles / 256 % 256) as u8, (roles % 256) as u8]
 }
@@ -120,7 +120,7 @@ pub fn put_users<'a>(
 ) -> Draft
     requires { (count ≤ length objects.now) × (count ≤ length roles.now) × RoomFor buffer.old from count 13 }
     ensures { Put buffer.old buffer.new from result
-        (table count (userLine 0x02 objects.now roles.now)) }
+        (table count (user_line 0x02 objects.now roles.now)) }
 {
     let mut draft = from;
     let mut i = 0;
@@ -135,7 +135,7 @@ pub fn put_users<'a>(
 
 // Privileges in 8 octets, the high octet first.
 fn privilege_octets(privileges: u64) -> [u8; 8]
-    ensures { result ≡ inOctets 8 privileges }
+    ensures { result ≡ in_octets 8 privileges }
 {
     let p6 = privileges / 256;
     let p5 = p6 / 256;
@@ -160,7 +160,7 @@ fn privilege_octets(privileges: u64) -> [u8; 8]
 pub fn put_demarcations(buffer: &mut [u8], from: Draft, count: usize, privileges: &[u64]) -> Draft
     requires { (count ≤ length privileges.now) × RoomFor buffer.old from count 23 }
     ensures { Put buffer.old buffer.new from result
-        (table count (demarcationLine 0x05 privileges.now)) }
+        (table count (demarcation_line 0x05 privileges.now)) }
 {
     let mut draft = from;
     let mut i = 0;
@@ -175,7 +175,7 @@ pub fn put_demarcations(buffer: &mut [u8], from: Draft, count: usize, privileges
 
 // The body of a method line: its form, and its privileges.
 fn method_body(form: u8, privileges: u64) -> [u8; 9]
-    ensures { result ≡ form ∷ inOctets 8 privileges }
+    ensures { result ≡ form ∷ in_octets 8 privileges }
 {
     let o = privilege_octets(privileges);
     [form, o[0], o[1], o[2], o[3], o[4], o[5], o[6], o[7]]
@@ -191,7 +191,7 @@ pub fn put_methods<'a>(
 ) -> Draft
     requires { (count ≤ length forms.now) × (count ≤ length privileges.now) × RoomFor buffer.old from count 25 }
     ensures { Put buffer.old buffer.new from result
-        (table count (methodLine 0x0A forms.now privileges.now)) }
+        (table count (method_line 0x0A forms.now privileges.now)) }
 {
     let mut draft = from;
     let mut i = 0;

@@ -3,14 +3,14 @@ use borrow.Author.Rules.{rules}
 use Rattle.access.proofs.ask_lazy.Statement.{statement}
 use Rattle.access.proofs.ask_lazy.Tie as tie
 
-loadable-requires : tie.Need-loadable-requires
-loadable-requires c κs = search rules
+loadable_requires : tie.Need-loadable-requires
+loadable_requires c κs = search rules
 
-ask-lazy-given-requires : tie.Need-ask-lazy-given-requires
-ask-lazy-given-requires c κs = c.loadable.ensures.decides
+ask_lazy_given_requires : tie.Need-ask-lazy-given-requires
+ask_lazy_given_requires c κs = c.loadable.ensures.decides
 
 returns : tie.Need-returns
 returns c = (c.ask-lazy-given.ensures, c.before.loadable.ensures.typed)
 
-pub ask-lazy-spec : {M : Type 1} → statement M
-ask-lazy-spec = tie.close (tie.spec loadable-requires ask-lazy-given-requires returns)
+pub ask_lazy_spec : {M : Type 1} → statement M
+ask_lazy_spec = tie.close (tie.spec loadable_requires ask_lazy_given_requires returns)

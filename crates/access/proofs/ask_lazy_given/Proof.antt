@@ -4,14 +4,14 @@ use borrow.Author.Rules.{rules}
 use Rattle.access.proofs.ask_lazy_given.Statement.{statement}
 use Rattle.access.proofs.ask_lazy_given.Tie as tie
 
-decide-lazily-requires : tie.Need-decide-lazily-requires
-decide-lazily-requires c κs = c.requires
+decide_lazily_requires : tie.Need-decide-lazily-requires
+decide_lazily_requires c κs = c.requires
 
-answer-of-requires : tie.Need-answer-of-requires
-answer-of-requires c κs = search rules
+answer_of_requires : tie.Need-answer-of-requires
+answer_of_requires c κs = search rules
 
 returns : tie.Need-returns
 returns c = c.answer-of.ensures ∙ c.before.decide-lazily.ensures
 
-pub ask-lazy-given-spec : {M : Type 1} → statement M
-ask-lazy-given-spec = tie.close (tie.spec decide-lazily-requires answer-of-requires returns)
+pub ask_lazy_given_spec : {M : Type 1} → statement M
+ask_lazy_given_spec = tie.close (tie.spec decide_lazily_requires answer_of_requires returns)

@@ -4,14 +4,14 @@ use borrow.Author.Rules.{rules}
 use Rattle.capi.proofs.packed.Statement.{statement}
 use Rattle.capi.proofs.packed.Tie as tie
 
-mul-result : tie.Need-overflow-mul-result
-mul-result c = search rules
+mul_result : tie.Need-overflow-mul-result
+mul_result c = search rules
 
-add-result : tie.Need-overflow-add-result
-add-result c = search rules
+add_result : tie.Need-overflow-add-result
+add_result c = search rules
 
 returns : tie.Need-returns
 returns c = refl
 
-pub packed-spec : {M : Type 1} → statement M
-packed-spec = tie.close (tie.spec mul-result add-result returns)
+pub packed_spec : {M : Type 1} → statement M
+packed_spec = tie.close (tie.spec mul_result add_result returns)

@@ -6,7 +6,7 @@ use mathlib.Core.Bool.{Bool, true≢false, false≢true}
 use mathlib.Core.List.{List}
 use mathlib.Core.Logic.{⊎_elim, ◌≢◌}
 use mathlib.Core.Path.{refl, sym, ◌∙◌}
-use Rattle.common.specs.Limits.{mostRelated}
+use Rattle.common.specs.Limits.{most_related}
 use Rattle.closure.specs.Closure.{On}
 use borrow.Author.Rules.{rules}
 use Rattle.closure.proofs.has_circle.Statement.{statement}
@@ -16,63 +16,63 @@ use Rattle.closure.proofs.has_circle.Tie as tie
 abbrev NoCircle : List (List Bool) → ℕ → ℕ → Type 0
 NoCircle c x y = x ≢ y → On c x y → On c y x → ⊥
 
-abbrev invariant-loop2 : tie.invariant-loop2
-invariant-loop2 count c n i j₀ j = (j ≤ n) × ((y : ℕ) → y < j → NoCircle c i y)
+abbrev invariant_loop2 : tie.invariant_loop2
+invariant_loop2 count c n i j₀ j = (j ≤ n) × ((y : ℕ) → y < j → NoCircle c i y)
 
-abbrev decreases-loop2 : tie.decreases-loop2
-decreases-loop2 count c n i j₀ j = n - j
+abbrev decreases_loop2 : tie.decreases_loop2
+decreases_loop2 count c n i j₀ j = n - j
 
-abbrev invariant-loop : tie.invariant-loop
-invariant-loop count c n i₀ i = (i ≤ n) × ((x : ℕ) → x < i → (y : ℕ) → y < n → NoCircle c x y)
+abbrev invariant_loop : tie.invariant_loop
+invariant_loop count c n i₀ i = (i ≤ n) × ((x : ℕ) → x < i → (y : ℕ) → y < n → NoCircle c x y)
 
-abbrev decreases-loop : tie.decreases-loop
-decreases-loop count c n i₀ i = n - i
+abbrev decreases_loop : tie.decreases_loop
+decreases_loop count c n i₀ i = n - i
 
-at-most-requires : tie.Need-at-most-requires invariant-loop2 decreases-loop2 invariant-loop decreases-loop
-at-most-requires c κs = search rules
+at_most_requires : tie.Need-at-most-requires invariant_loop2 decreases_loop2 invariant_loop decreases_loop
+at_most_requires c κs = search rules
 
-loop-holds : tie.Need-loop-init invariant-loop2 decreases-loop2 invariant-loop decreases-loop
-loop-holds c = (omega arith, λ x l. absurd (omega arith))
+loop_holds : tie.Need-loop-init invariant_loop2 decreases_loop2 invariant_loop decreases_loop
+loop_holds c = (omega arith, λ x l. absurd (omega arith))
 
-loop2-holds : tie.Need-loop2-init invariant-loop2 decreases-loop2 invariant-loop decreases-loop
-loop2-holds c = (omega arith, λ y l. absurd (omega arith))
+loop2_holds : tie.Need-loop2-init invariant_loop2 decreases_loop2 invariant_loop decreases_loop
+loop2_holds c = (omega arith, λ y l. absurd (omega arith))
 
-mul-if2 : tie.Need-overflow-mul-if2 invariant-loop2 decreases-loop2 invariant-loop decreases-loop
-mul-if2 c = search rules
+mul_if2 : tie.Need-overflow-mul-if2 invariant_loop2 decreases_loop2 invariant_loop decreases_loop
+mul_if2 c = search rules
 
-index-1-if2 : tie.Need-bounds-1-if2 invariant-loop2 decreases-loop2 invariant-loop decreases-loop
-index-1-if2 c = search rules
+index_1_if2 : tie.Need-bounds-1-if2 invariant_loop2 decreases_loop2 invariant_loop decreases_loop
+index_1_if2 c = search rules
 
-index-2-if2 : tie.Need-bounds-2-if2 invariant-loop2 decreases-loop2 invariant-loop decreases-loop
-index-2-if2 c = search rules
+index_2_if2 : tie.Need-bounds-2-if2 invariant_loop2 decreases_loop2 invariant_loop decreases_loop
+index_2_if2 c = search rules
 
-mul-if3 : tie.Need-overflow-mul-if3 invariant-loop2 decreases-loop2 invariant-loop decreases-loop
-mul-if3 c = search rules
+mul_if3 : tie.Need-overflow-mul-if3 invariant_loop2 decreases_loop2 invariant_loop decreases_loop
+mul_if3 c = search rules
 
-index-1-if3 : tie.Need-bounds-1-if3 invariant-loop2 decreases-loop2 invariant-loop decreases-loop
-index-1-if3 c = search rules
+index_1_if3 : tie.Need-bounds-1-if3 invariant_loop2 decreases_loop2 invariant_loop decreases_loop
+index_1_if3 c = search rules
 
-index-2-if3 : tie.Need-bounds-2-if3 invariant-loop2 decreases-loop2 invariant-loop decreases-loop
-index-2-if3 c = search rules
+index_2_if3 : tie.Need-bounds-2-if3 invariant_loop2 decreases_loop2 invariant_loop decreases_loop
+index_2_if3 c = search rules
 
-returns : tie.Need-returns invariant-loop2 decreases-loop2 invariant-loop decreases-loop
+returns : tie.Need-returns invariant_loop2 decreases_loop2 invariant_loop decreases_loop
 returns c =
     let p = c.before.before in
     let d = p.before.before in
     let a = d.before.before in
     let b = a.before.before in
-    let li : b.loop.i < min b.before.before.args.count mostRelated = omega arith in
-    let lj : a.loop2.j < min b.before.before.args.count mostRelated = omega arith in
+    let li : b.loop.i < min b.before.before.args.count most_related = omega arith in
+    let lj : a.loop2.j < min b.before.before.args.count most_related = omega arith in
     (λ _. (b.loop.i, a.loop2.j, d.if1.true, (li, lj, p.if2.true), (lj, li, c.if3.true)), λ _. refl)
 
-add-j : tie.Need-overflow-add-j invariant-loop2 decreases-loop2 invariant-loop decreases-loop
-add-j c = search rules
+add_j : tie.Need-overflow-add-j invariant_loop2 decreases_loop2 invariant_loop decreases_loop
+add_j c = search rules
 
-loop2-less : tie.Need-loop2-smaller invariant-loop2 decreases-loop2 invariant-loop decreases-loop
-loop2-less c = search rules
+loop2_less : tie.Need-loop2-smaller invariant_loop2 decreases_loop2 invariant_loop decreases_loop
+loop2_less c = search rules
 
-loop2-again : tie.Need-loop2-preserved invariant-loop2 decreases-loop2 invariant-loop decreases-loop
-loop2-again c =
+loop2_again : tie.Need-loop2-preserved invariant_loop2 decreases_loop2 invariant_loop decreases_loop
+loop2_again c =
     let a = c.before.before in
     let b = a.before.before in (
       omega arith,
@@ -83,14 +83,14 @@ loop2-again c =
           c.if1.branch),
     )
 
-add-i : tie.Need-overflow-add-i invariant-loop2 decreases-loop2 invariant-loop decreases-loop
-add-i c = search rules
+add_i : tie.Need-overflow-add-i invariant_loop2 decreases_loop2 invariant_loop decreases_loop
+add_i c = search rules
 
-loop-less : tie.Need-loop-smaller invariant-loop2 decreases-loop2 invariant-loop decreases-loop
-loop-less c = search rules
+loop_less : tie.Need-loop-smaller invariant_loop2 decreases_loop2 invariant_loop decreases_loop
+loop_less c = search rules
 
-loop-again : tie.Need-loop-preserved invariant-loop2 decreases-loop2 invariant-loop decreases-loop
-loop-again c =
+loop_again : tie.Need-loop-preserved invariant_loop2 decreases_loop2 invariant_loop decreases_loop
+loop_again c =
     let a = c.before in
     let b = a.before.before in (
       omega arith,
@@ -98,34 +98,34 @@ loop-again c =
           (λ y l. a.loop2.invariant.1 y (omega arith)),
     )
 
-returns-2 : tie.Need-returns-2 invariant-loop2 decreases-loop2 invariant-loop decreases-loop
-returns-2 c = (
+returns_2 : tie.Need-returns-2 invariant_loop2 decreases_loop2 invariant_loop decreases_loop
+returns_2 c = (
   λ e. absurd (false≢true e),
   λ (i, j, ne, (li, lj, p), (_, _, q)). absurd (c.before.loop.invariant.1 i (omega arith) j (omega arith) ne p q),
 )
 
-pub has-circle-spec : {M : Type 1} → statement M
-has-circle-spec =
+pub has_circle_spec : {M : Type 1} → statement M
+has_circle_spec =
     tie.close
     (tie.spec
-    invariant-loop2
-    decreases-loop2
-    invariant-loop
-    decreases-loop
-    at-most-requires
-    loop-holds
-    loop2-holds
-    mul-if2
-    index-1-if2
-    index-2-if2
-    mul-if3
-    index-1-if3
-    index-2-if3
+    invariant_loop2
+    decreases_loop2
+    invariant_loop
+    decreases_loop
+    at_most_requires
+    loop_holds
+    loop2_holds
+    mul_if2
+    index_1_if2
+    index_2_if2
+    mul_if3
+    index_1_if3
+    index_2_if3
     returns
-    add-j
-    loop2-less
-    loop2-again
-    add-i
-    loop-less
-    loop-again
-    returns-2)
+    add_j
+    loop2_less
+    loop2_again
+    add_i
+    loop_less
+    loop_again
+    returns_2)

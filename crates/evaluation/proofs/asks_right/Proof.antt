@@ -7,8 +7,8 @@ use Rattle.evaluation.proofs.asks_right.Tie as tie
 returns : tie.Need-returns
 returns c = rw (eq-eqb c.before.args.op 5 c.if1.true) refl
 
-returns-2 : tie.Need-returns-2
-returns-2 c = rw (ne_eqb c.before.args.op 5 c.if1.false) refl
+returns_2 : tie.Need-returns-2
+returns_2 c = rw (ne_eqb c.before.args.op 5 c.if1.false) refl
 
-pub asks-right-spec : {M : Type 1} → statement M
-asks-right-spec = tie.close (tie.spec returns returns-2)
+pub asks_right_spec : {M : Type 1} → statement M
+asks_right_spec = tie.close (tie.spec returns returns_2)

@@ -14,11 +14,11 @@ returns c =
     (lt_of_lt_of_le c.before.ranges.roles.fits (pow_mono c.if1.true)) in
     rw h
 
-shr-result : tie.Need-overflow-shr-result
-shr-result c = search rules
+shr_result : tie.Need-overflow-shr-result
+shr_result c = search rules
 
-returns-2 : tie.Need-returns-2
-returns-2 c = search rules
+returns_2 : tie.Need-returns-2
+returns_2 c = search rules
 
-pub holds-role-spec : {M : Type 1} → statement M
-holds-role-spec = tie.close (tie.spec returns shr-result returns-2)
+pub holds_role_spec : {M : Type 1} → statement M
+holds_role_spec = tie.close (tie.spec returns shr_result returns_2)

@@ -6,56 +6,56 @@ use mathlib.Core.List.{[]}
 use native.Mathlib.Omega.{arith}
 use lib.ListN.{get_or}
 use Rattle.justification.specs.MarkedSets.{Marks}
-use Rattle.justification.proofs.Marking.{marks-none, marks-more, marks-end}
+use Rattle.justification.proofs.Marking.{marks_none, marks_more, marks_end}
 use borrow.Author.Rules.{rules}
 use Rattle.justification.proofs.column_set.Statement.{statement}
 use Rattle.justification.proofs.column_set.Tie as tie
 
-abbrev invariant-loop : tie.invariant-loop
-invariant-loop n j c s₀ i₀ s i = Marks i (λ k. get_or (get_or c k []) j false) s × (i ≤ n)
+abbrev invariant_loop : tie.invariant_loop
+invariant_loop n j c s₀ i₀ s i = Marks i (λ k. get_or (get_or c k []) j false) s × (i ≤ n)
 
-abbrev decreases-loop : tie.decreases-loop
-decreases-loop n j c s₀ i₀ s i = n - i
+abbrev decreases_loop : tie.decreases_loop
+decreases_loop n j c s₀ i₀ s i = n - i
 
-loop-holds : tie.Need-loop-init invariant-loop decreases-loop
-loop-holds c = (marks-none _, omega arith)
+loop_holds : tie.Need-loop-init invariant_loop decreases_loop
+loop_holds c = (marks_none _, omega arith)
 
-mul-marked : tie.Need-overflow-mul-marked invariant-loop decreases-loop
-mul-marked c = search rules
+mul_marked : tie.Need-overflow-mul-marked invariant_loop decreases_loop
+mul_marked c = search rules
 
-index-1-marked : tie.Need-bounds-1-marked invariant-loop decreases-loop
-index-1-marked c = search rules
+index_1_marked : tie.Need-bounds-1-marked invariant_loop decreases_loop
+index_1_marked c = search rules
 
-index-2-marked : tie.Need-bounds-2-marked invariant-loop decreases-loop
-index-2-marked c = search rules
+index_2_marked : tie.Need-bounds-2-marked invariant_loop decreases_loop
+index_2_marked c = search rules
 
-marked-requires : tie.Need-marked-requires invariant-loop decreases-loop
-marked-requires c κs = search rules
+marked_requires : tie.Need-marked-requires invariant_loop decreases_loop
+marked_requires c κs = search rules
 
-add-i : tie.Need-overflow-add-i invariant-loop decreases-loop
-add-i c = search rules
+add_i : tie.Need-overflow-add-i invariant_loop decreases_loop
+add_i c = search rules
 
-loop-less : tie.Need-loop-smaller invariant-loop decreases-loop
-loop-less c = search rules
+loop_less : tie.Need-loop-smaller invariant_loop decreases_loop
+loop_less c = search rules
 
-loop-again : tie.Need-loop-preserved invariant-loop decreases-loop
-loop-again c = (marks-more c.before.before.before.loop.invariant.0 _ refl c.marked.ensures, omega arith)
+loop_again : tie.Need-loop-preserved invariant_loop decreases_loop
+loop_again c = (marks_more c.before.before.before.loop.invariant.0 _ refl c.marked.ensures, omega arith)
 
-returns : tie.Need-returns invariant-loop decreases-loop
-returns c = marks-end (omega arith) c.before.loop.invariant.0
+returns : tie.Need-returns invariant_loop decreases_loop
+returns c = marks_end (omega arith) c.before.loop.invariant.0
 
-pub column-set-spec : {M : Type 1} → statement M
-column-set-spec =
+pub column_set_spec : {M : Type 1} → statement M
+column_set_spec =
     tie.close
     (tie.spec
-    invariant-loop
-    decreases-loop
-    loop-holds
-    mul-marked
-    index-1-marked
-    index-2-marked
-    marked-requires
-    add-i
-    loop-less
-    loop-again
+    invariant_loop
+    decreases_loop
+    loop_holds
+    mul_marked
+    index_1_marked
+    index_2_marked
+    marked_requires
+    add_i
+    loop_less
+    loop_again
     returns)

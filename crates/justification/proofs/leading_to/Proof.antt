@@ -4,14 +4,14 @@ use borrow.Author.Rules.{rules}
 use Rattle.justification.proofs.leading_to.Statement.{statement}
 use Rattle.justification.proofs.leading_to.Tie as tie
 
-related-requires : tie.Need-related-requires
-related-requires c κs = search rules
+related_requires : tie.Need-related-requires
+related_requires c κs = search rules
 
-closed-requires : tie.Need-closed-requires
-closed-requires c κs = search rules
+closed_requires : tie.Need-closed-requires
+closed_requires c κs = search rules
 
-column-sets-requires : tie.Need-column-sets-requires
-column-sets-requires c κs = search rules
+column_sets_requires : tie.Need-column-sets-requires
+column_sets_requires c κs = search rules
 
 returns : tie.Need-returns
 returns c =
@@ -20,6 +20,6 @@ returns c =
     c.before.closed.result c.«column-sets».result s.requires.0 s.requires.1
     c.before.before.related.ensures c.before.closed.ensures c.«column-sets».ensures
 
-pub leading-to-spec : {M : Type 1} → statement M
-leading-to-spec =
-    tie.close (tie.spec related-requires closed-requires column-sets-requires returns)
+pub leading_to_spec : {M : Type 1} → statement M
+leading_to_spec =
+    tie.close (tie.spec related_requires closed_requires column_sets_requires returns)

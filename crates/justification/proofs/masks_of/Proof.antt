@@ -1,33 +1,33 @@
 -- `masks_of` meets its contract.
 use mathlib.Core.Path.{refl}
 use borrow.Author.Rules.{rules}
-use Rattle.justification.proofs.Masking.{masked-by}
+use Rattle.justification.proofs.Masking.{masked_by}
 use Rattle.justification.proofs.masks_of.Statement.{statement}
 use Rattle.justification.proofs.masks_of.Tie as tie
 
-excludes-of-requires : tie.Need-excludes-of-requires
-excludes-of-requires c κs = search rules
+excludes_of_requires : tie.Need-excludes-of-requires
+excludes_of_requires c κs = search rules
 
-leading-to-requires : tie.Need-leading-to-requires
-leading-to-requires c κs = search rules
+leading_to_requires : tie.Need-leading-to-requires
+leading_to_requires c κs = search rules
 
-grants-of-requires : tie.Need-grants-of-requires
-grants-of-requires c κs = search rules
+grants_of_requires : tie.Need-grants-of-requires
+grants_of_requires c κs = search rules
 
-role-principals-requires : tie.Need-role-principals-requires
-role-principals-requires c κs = search rules
+role_principals_requires : tie.Need-role-principals-requires
+role_principals_requires c κs = search rules
 
-mul-listed : tie.Need-overflow-mul-listed
-mul-listed c = search rules
+mul_listed : tie.Need-overflow-mul-listed
+mul_listed c = search rules
 
-element-copy-out-listed : tie.Need-element-copy-out-listed
-element-copy-out-listed c = search rules
+element_copy_out_listed : tie.Need-element-copy-out-listed
+element_copy_out_listed c = search rules
 
-listed-requires : tie.Need-listed-requires
-listed-requires c κs = search rules
+listed_requires : tie.Need-listed-requires
+listed_requires c κs = search rules
 
-element-copy-out-t31 : tie.Need-element-copy-out-t31
-element-copy-out-t31 c = search rules
+element_copy_out_t31 : tie.Need-element-copy-out-t31
+element_copy_out_t31 c = search rules
 
 returns : tie.Need-returns
 returns c =
@@ -36,7 +36,7 @@ returns c =
     let g = o.before in
     let n = g.before in
     let e = n.before in
-    masked-by
+    masked_by
     record {
       few = e.before.requires.few;
       count = refl;
@@ -44,22 +44,22 @@ returns c =
       excludes = e.excludes-of.ensures;
       needs = n.leading-to.ensures;
       grants = g.grants-of.ensures;
-      rolePrincipals = o.role-principals.ensures;
+      role_principals_of = o.role-principals.ensures;
       every = refl;
       wanted = w.0;
       bounded = w.1;
     }
 
-pub masks-of-spec : {M : Type 1} → statement M
-masks-of-spec =
+pub masks_of_spec : {M : Type 1} → statement M
+masks_of_spec =
     tie.close
     (tie.spec
-    excludes-of-requires
-    leading-to-requires
-    grants-of-requires
-    role-principals-requires
-    mul-listed
-    element-copy-out-listed
-    listed-requires
-    element-copy-out-t31
+    excludes_of_requires
+    leading_to_requires
+    grants_of_requires
+    role_principals_requires
+    mul_listed
+    element_copy_out_listed
+    listed_requires
+    element_copy_out_t31
     returns)

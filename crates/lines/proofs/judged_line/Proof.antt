@@ -5,14 +5,14 @@ use native.Mathlib.Omega.{arith}
 use lib.ListN.{drop}
 use borrow.Author.Rules.{rules}
 use Rattle.common.specs.Lists.{at}
-use Rattle.octets.specs.Line.{kindOctet, frame}
-use Rattle.octets.specs.Answers.{sizedTotal, totalOfSize}
-use Rattle.octets.specs.AnswerLaws.{held-octet}
-use Rattle.lines.specs.Judging.{judgedRow}
-use Rattle.lines.proofs.FoundLine.{sum-most}
-use Rattle.lines.proofs.JudgedLine.{says_other, says-refused, of-body}
-use Rattle.lines.proofs.NextLaws.{OfSize, of_size, of-size-some, of-size-next, of-size-row, next-other, next-body}
-use Rattle.lines.proofs.NextLaws.{left-refused, left_other}
+use Rattle.octets.specs.Line.{kind_octet, frame}
+use Rattle.octets.specs.Answers.{sized_total, total_of_size}
+use Rattle.octets.specs.AnswerLaws.{held_octet}
+use Rattle.lines.specs.Judging.{judged_row}
+use Rattle.lines.proofs.FoundLine.{sum_most}
+use Rattle.lines.proofs.JudgedLine.{says_other, says_refused, of_body}
+use Rattle.lines.proofs.NextLaws.{OfSize, of_size, of_size_some, of_size_next, of_size_row, next_other, next_body}
+use Rattle.lines.proofs.NextLaws.{left_refused, left_other}
 use Rattle.lines.proofs.judged_line.Statement.{statement}
 use Rattle.lines.proofs.judged_line.Tie as tie
 
@@ -26,90 +26,90 @@ line n = n.before.before
 -- the line of the size
 there : (n : tie.After-total) → let a = (entry (line n)).args in
     OfSize a.text.now a.cursor.offset a.size n.total.given.0.0
-there n = of_size _ _ _ (sym (ap sizedTotal n.total.given.1) ∙ (line n).sized-line.ensures.0)
+there n = of_size _ _ _ (sym (ap sized_total n.total.given.1) ∙ (line n).sized-line.ensures.0)
 
 -- no line of the size
 left : (t : tie.After-enum-told) → let a = (entry t.before.before).args in
-    none ≡ totalOfSize a.size (frame (drop a.cursor.offset a.text.now))
-left t = sym (ap sizedTotal t.enum_told.given.1) ∙ t.before.before.sized-line.ensures.0
+    none ≡ total_of_size a.size (frame (drop a.cursor.offset a.text.now))
+left t = sym (ap sized_total t.enum_told.given.1) ∙ t.before.before.sized-line.ensures.0
 
 -- the octet that says the kind
-says : (n : tie.After-total) → at (line n).sized-line.new.1.1.1.1.0 1 ≡ kindOctet (there n).os
+says : (n : tie.After-total) → at (line n).sized-line.new.1.1.1.1.0 1 ≡ kind_octet (there n).os
 says n =
-    held-octet _ (line n).sized-line.ensures.1 (there n).framed (there n).sized 1 (let h = of-size-some (there n) in omega arith)
+    held_octet _ (line n).sized-line.ensures.1 (there n).framed (there n).sized 1 (let h = of_size_some (there n) in omega arith)
 
-sized-line-requires : tie.Need-sized-line-requires
-sized-line-requires c κs = search rules
+sized_line_requires : tie.Need-sized-line-requires
+sized_line_requires c κs = search rules
 
 enum_told : tie.Need-enum-told
 enum_told c = search rules
 
-other-refusal-requires : tie.Need-other-refusal-requires
-other-refusal-requires c κs = search rules
+other_refusal_requires : tie.Need-other-refusal-requires
+other_refusal_requires c κs = search rules
 
 returns : tie.Need-returns
 returns c =
     let r = c.before in
-    says-refused _ _ _ _ _ _ (sym (left-refused _ _ _ _ (left r.before) r.other-refusal.ensures c.if1.true))
+    says_refused _ _ _ _ _ _ (sym (left_refused _ _ _ _ (left r.before) r.other-refusal.ensures c.if1.true))
 
-enum-known-total : tie.Need-enum-known-total
-enum-known-total c = search rules
+enum_known_total : tie.Need-enum-known-total
+enum_known_total c = search rules
 
-array-read-if2 : tie.Need-array-read-if2
-array-read-if2 c = search rules
+array_read_if2 : tie.Need-array-read-if2
+array_read_if2 c = search rules
 
-returns-2 : tie.Need-returns-2
-returns-2 c =
-    let n = c.before.before in says_other _ _ _ _ _ _ (sym (next-other (there n) _ (λ z. c.if2.true (says n ∙ z))))
+returns_2 : tie.Need-returns-2
+returns_2 c =
+    let n = c.before.before in says_other _ _ _ _ _ _ (sym (next_other (there n) _ (λ z. c.if2.true (says n ∙ z))))
 
-mul-past : tie.Need-overflow-mul-past
-mul-past c = search rules
+mul_past : tie.Need-overflow-mul-past
+mul_past c = search rules
 
-add-past : tie.Need-overflow-add-past
-add-past c = let h = of-size-next (there c.before.before) in search rules
+add_past : tie.Need-overflow-add-past
+add_past c = let h = of_size_next (there c.before.before) in search rules
 
-add-past-2 : tie.Need-overflow-add-past-2
-add-past-2 c = let h = of-size-next (there c.before.before) in search rules
+add_past_2 : tie.Need-overflow-add-past-2
+add_past_2 c = let h = of_size_next (there c.before.before) in search rules
 
-past-requires : tie.Need-past-requires
-past-requires c κs =
+past_requires : tie.Need-past-requires
+past_requires c κs =
     let z = there c.before.before in
-    ((entry (line c.before.before)).requires.1, omega (arith, sum-most _ z.framed, z.summed))
+    ((entry (line c.before.before)).requires.1, omega (arith, sum_most _ z.framed, z.summed))
 
-judged-octets-requires : tie.Need-judged-octets-requires
-judged-octets-requires c κs = search rules
+judged_octets_requires : tie.Need-judged-octets-requires
+judged_octets_requires c κs = search rules
 
-returns-3 : tie.Need-returns-3
-returns-3 c =
+returns_3 : tie.Need-returns-3
+returns_3 c =
     let r = c.before in says_other _ _ _ _ _ _ (sym (left_other _ _ _ _ (left r.before) r.other-refusal.ensures c.if1.false))
 
-returns-4 : tie.Need-returns-4
-returns-4 c =
+returns_4 : tie.Need-returns-4
+returns_4 c =
     let p = c.before.before in
     let n = p.before.before.before in
     let a = (entry (line n)).args in
     let z = there n in
-    let v = of-size-row z 16 ((line n).sized-line.ensures.1 _ z.framed z.sized) in
+    let v = of_size_row z 16 ((line n).sized-line.ensures.1 _ z.framed z.sized) in
     c.judged-octets.ensures
-    ∙ (λ i. judgedRow a.kind a.bounds (at a.heights.now) (p.past.ensures i) (v i))
-    ∙ sym (of-body a.text.now a.cursor a.kind a.size a.bounds (at a.heights.now)
-    (sym (next-body z a.kind (sym (says n) ∙ p.before.if2.false))))
+    ∙ (λ i. judged_row a.kind a.bounds (at a.heights.now) (p.past.ensures i) (v i))
+    ∙ sym (of_body a.text.now a.cursor a.kind a.size a.bounds (at a.heights.now)
+    (sym (next_body z a.kind (sym (says n) ∙ p.before.if2.false))))
 
-pub judged-line-spec : {M : Type 1} → statement M
-judged-line-spec =
+pub judged_line_spec : {M : Type 1} → statement M
+judged_line_spec =
     tie.close
     (tie.spec
-    sized-line-requires
+    sized_line_requires
     enum_told
-    other-refusal-requires
+    other_refusal_requires
     returns
-    enum-known-total
-    array-read-if2
-    returns-2
-    mul-past
-    add-past
-    add-past-2
-    past-requires
-    judged-octets-requires
-    returns-3
-    returns-4)
+    enum_known_total
+    array_read_if2
+    returns_2
+    mul_past
+    add_past
+    add_past_2
+    past_requires
+    judged_octets_requires
+    returns_3
+    returns_4)

@@ -4,14 +4,14 @@ use borrow.Author.Rules.{rules}
 use Rattle.lines.proofs.past.Statement.{statement}
 use Rattle.lines.proofs.past.Tie as tie
 
-add-t5 : tie.Need-overflow-add-t5
-add-t5 c = search rules
+add_t5 : tie.Need-overflow-add-t5
+add_t5 c = search rules
 
-add-t6 : tie.Need-overflow-add-t6
-add-t6 c = search rules
+add_t6 : tie.Need-overflow-add-t6
+add_t6 c = search rules
 
 returns : tie.Need-returns
 returns c = refl
 
-pub past-spec : {M : Type 1} → statement M
-past-spec = tie.close (tie.spec add-t5 add-t6 returns)
+pub past_spec : {M : Type 1} → statement M
+past_spec = tie.close (tie.spec add_t5 add_t6 returns)

@@ -2,51 +2,51 @@
 use mathlib.Core.Path.{◌∙◌}
 use native.Mathlib.Omega.{arith}
 use borrow.Author.Rules.{rules}
-use Rattle.loading.proofs.Ends.{load-empty}
+use Rattle.loading.proofs.Ends.{load_empty}
 use Rattle.loading.proofs.load.Statement.{statement}
 use Rattle.loading.proofs.load.Tie as tie
 
-not-loaded-requires : tie.Need-not-loaded-requires
-not-loaded-requires c κs = search rules
+not_loaded_requires : tie.Need-not-loaded-requires
+not_loaded_requires c κs = search rules
 
 returns : tie.Need-returns
-returns c = c.not-loaded.ensures ∙ load-empty _ c.before.if1.true
+returns c = c.not-loaded.ensures ∙ load_empty _ c.before.if1.true
 
-read-head-requires : tie.Need-read-head-requires
-read-head-requires c κs = omega arith
+read_head_requires : tie.Need-read-head-requires
+read_head_requires c κs = omega arith
 
-read-kind-requires : tie.Need-read-kind-requires
-read-kind-requires c κs = (search rules, c.read_head.ensures.ready)
+read_kind_requires : tie.Need-read-kind-requires
+read_kind_requires c κs = (search rules, c.read_head.ensures.ready)
 
-read-kind-requires-2 : tie.Need-read-kind-requires-2
-read-kind-requires-2 c κs = (search rules, c.read-kind.ensures.ready)
+read_kind_requires_2 : tie.Need-read-kind-requires-2
+read_kind_requires_2 c κs = (search rules, c.read-kind.ensures.ready)
 
-read-kind-requires-3 : tie.Need-read-kind-requires-3
-read-kind-requires-3 c κs = (search rules, c.read-kind2.ensures.ready)
+read_kind_requires_3 : tie.Need-read-kind-requires-3
+read_kind_requires_3 c κs = (search rules, c.read-kind2.ensures.ready)
 
-read-kind-requires-4 : tie.Need-read-kind-requires-4
-read-kind-requires-4 c κs = (search rules, c.read-kind3.ensures.ready)
+read_kind_requires_4 : tie.Need-read-kind-requires-4
+read_kind_requires_4 c κs = (search rules, c.read-kind3.ensures.ready)
 
-read-kind-requires-5 : tie.Need-read-kind-requires-5
-read-kind-requires-5 c κs = (search rules, c.read-kind4.ensures.ready)
+read_kind_requires_5 : tie.Need-read-kind-requires-5
+read_kind_requires_5 c κs = (search rules, c.read-kind4.ensures.ready)
 
-read-kind-requires-6 : tie.Need-read-kind-requires-6
-read-kind-requires-6 c κs = (search rules, c.read-kind5.ensures.ready)
+read_kind_requires_6 : tie.Need-read-kind-requires-6
+read_kind_requires_6 c κs = (search rules, c.read-kind5.ensures.ready)
 
-read-kind-requires-7 : tie.Need-read-kind-requires-7
-read-kind-requires-7 c κs = (search rules, c.read-kind6.ensures.ready)
+read_kind_requires_7 : tie.Need-read-kind-requires-7
+read_kind_requires_7 c κs = (search rules, c.read-kind6.ensures.ready)
 
-read-kind-requires-8 : tie.Need-read-kind-requires-8
-read-kind-requires-8 c κs = (search rules, c.read-kind7.ensures.ready)
+read_kind_requires_8 : tie.Need-read-kind-requires-8
+read_kind_requires_8 c κs = (search rules, c.read-kind7.ensures.ready)
 
-read-kind-requires-9 : tie.Need-read-kind-requires-9
-read-kind-requires-9 c κs = (search rules, c.read-kind8.ensures.ready)
+read_kind_requires_9 : tie.Need-read-kind-requires-9
+read_kind_requires_9 c κs = (search rules, c.read-kind8.ensures.ready)
 
-finish-requires : tie.Need-finish-requires
-finish-requires c κs = c.read-kind9.ensures.ready
+finish_requires : tie.Need-finish-requires
+finish_requires c κs = c.read-kind9.ensures.ready
 
-returns-2 : tie.Need-returns-2
-returns-2 c =
+returns_2 : tie.Need-returns-2
+returns_2 c =
     let methods = c.before in
     let prerequisites = methods.before in
     let exclusions = prerequisites.before in
@@ -73,17 +73,17 @@ pub load_spec : {M : Type 1} → statement M
 load_spec =
     tie.close
     (tie.spec
-    not-loaded-requires
+    not_loaded_requires
     returns
-    read-head-requires
-    read-kind-requires
-    read-kind-requires-2
-    read-kind-requires-3
-    read-kind-requires-4
-    read-kind-requires-5
-    read-kind-requires-6
-    read-kind-requires-7
-    read-kind-requires-8
-    read-kind-requires-9
-    finish-requires
-    returns-2)
+    read_head_requires
+    read_kind_requires
+    read_kind_requires_2
+    read_kind_requires_3
+    read_kind_requires_4
+    read_kind_requires_5
+    read_kind_requires_6
+    read_kind_requires_7
+    read_kind_requires_8
+    read_kind_requires_9
+    finish_requires
+    returns_2)

@@ -4,86 +4,86 @@ use mathlib.Core.Path.{◌≡◌, ◌∙◌, ap}
 use mathlib.Core.List.{List}
 use native.Mathlib.Omega.{arith}
 use borrow.Author.Rules.{rules}
-use Rattle.common.specs.Limits.{mostFormulas, mostPrincipals}
+use Rattle.common.specs.Limits.{most_formulas, most_principals}
 use Rattle.common.specs.Lists.{at, below}
 use Rattle.policy.specs.declared.Record.{Record}
-use Rattle.vertices.specs.Steps.{edgesIn}
-use Rattle.formula.specs.Evaluation.{formulasIn, context_of}
-use Rattle.memo.specs.Walk.{evaluatedAll}
-use Rattle.memo.specs.Lent.{Principals, truthIn}
-use Rattle.memo.proofs.Memos.{evaluated-none, evaluated-more, evaluated-end}
+use Rattle.vertices.specs.Steps.{edges_in}
+use Rattle.formula.specs.Evaluation.{formulas_in, context_of}
+use Rattle.memo.specs.Walk.{evaluated_all}
+use Rattle.memo.specs.Lent.{Principals, truth_in}
+use Rattle.memo.proofs.Memos.{evaluated_none, evaluated_more, evaluated_end}
 use Rattle.memo.proofs.evaluated_all.Statement.{statement}
 use Rattle.memo.proofs.evaluated_all.Tie as tie
 
 -- for any record with these principals
-abbrev invariant-loop : tie.invariant-loop
-invariant-loop edge_count labels sources targets firsts counts places ops lefts rights count formulas roles object requestor m₀ p₀ m p =
+abbrev invariant_loop : tie.invariant_loop
+invariant_loop edge_count labels sources targets firsts counts places ops lefts rights count formulas roles object requestor m₀ p₀ m p =
     ((rules : Record) → Principals count formulas rules
-    → m ≡ evaluatedAll
-    (truthIn (context_of roles object requestor (edgesIn edge_count labels sources targets)) (formulasIn ops lefts rights)) rules m₀ (below p))
+    → m ≡ evaluated_all
+    (truth_in (context_of roles object requestor (edges_in edge_count labels sources targets)) (formulas_in ops lefts rights)) rules m₀ (below p))
     × (p ≤ count)
 
-abbrev decreases-loop : tie.decreases-loop
-decreases-loop edge_count labels sources targets firsts counts places ops lefts rights count formulas roles object requestor m₀ p₀ m p = count - p
+abbrev decreases_loop : tie.decreases_loop
+decreases_loop edge_count labels sources targets firsts counts places ops lefts rights count formulas roles object requestor m₀ p₀ m p = count - p
 
 -- inside the loop: the principal is one of so many, and its formula has an index in the memo
-module _ (i : tie.In-loop invariant-loop decreases-loop) where
-  few : i.before.loop.p < mostPrincipals
+module _ (i : tie.In-loop invariant_loop decreases_loop) where
+  few : i.before.loop.p < most_principals
   few = omega (arith, i.loop-test.true, i.before.before.requires.1.0)
 
-  small : at i.before.before.args.formulas.now i.before.loop.p < mostFormulas
+  small : at i.before.before.args.formulas.now i.before.loop.p < most_formulas
   small = i.before.before.pre.1.1 i.before.loop.p i.loop-test.taken
 
 -- the loop's test, from the index of the formula
-abbrev in-loop : tie.After-index invariant-loop decreases-loop → tie.In-loop invariant-loop decreases-loop
-in-loop c = c.before.before
+abbrev in_loop : tie.After-index invariant_loop decreases_loop → tie.In-loop invariant_loop decreases_loop
+in_loop c = c.before.before
 
-loop-holds : tie.Need-loop-init invariant-loop decreases-loop
-loop-holds c = (λ r e. evaluated-none _ r _, omega arith)
+loop_holds : tie.Need-loop-init invariant_loop decreases_loop
+loop_holds c = (λ r e. evaluated_none _ r _, omega arith)
 
-element-copy-out-index : tie.Need-element-copy-out-index invariant-loop decreases-loop
-element-copy-out-index c = few c
+element_copy_out_index : tie.Need-element-copy-out-index invariant_loop decreases_loop
+element_copy_out_index c = few c
 
-index-requires : tie.Need-index-requires invariant-loop decreases-loop
-index-requires c κs = search rules
+index_requires : tie.Need-index-requires invariant_loop decreases_loop
+index_requires c κs = search rules
 
-evaluated-requires : tie.Need-evaluated-requires invariant-loop decreases-loop
-evaluated-requires c κs = let i = in-loop c in (i.before.before.pre.0, omega (arith, c.index.ensures, small i))
+evaluated_requires : tie.Need-evaluated-requires invariant_loop decreases_loop
+evaluated_requires c κs = let i = in_loop c in (i.before.before.pre.0, omega (arith, c.index.ensures, small i))
 
-add-p : tie.Need-overflow-add-p invariant-loop decreases-loop
-add-p c = omega (arith, few (in-loop c.before))
+add_p : tie.Need-overflow-add-p invariant_loop decreases_loop
+add_p c = omega (arith, few (in_loop c.before))
 
-loop-less : tie.Need-loop-smaller invariant-loop decreases-loop
-loop-less c = omega (arith, (in-loop c.before).loop-test.taken)
+loop_less : tie.Need-loop-smaller invariant_loop decreases_loop
+loop_less c = omega (arith, (in_loop c.before).loop-test.taken)
 
-loop-again : tie.Need-loop-preserved invariant-loop decreases-loop
-loop-again c =
+loop_again : tie.Need-loop-preserved invariant_loop decreases_loop
+loop_again c =
     let x = c.before in
-    let i = in-loop x in
+    let i = in_loop x in
     let l = i.before in (
-      λ r e. evaluated-more _ r _ l.loop.p (l.loop.inv.0 r e)
+      λ r e. evaluated_more _ r _ l.loop.p (l.loop.inv.0 r e)
           (x.index.ensures ∙ ap (λ (f : List ℕ). at f l.loop.p) e.1) c.evaluated.ensures,
       omega (arith, i.loop-test.taken),
     )
 
-returns : tie.Need-returns invariant-loop decreases-loop
+returns : tie.Need-returns invariant_loop decreases_loop
 returns c =
     let l = c.before in
     let a = l.before.args in
     let e : l.loop.p ≡ a.count = omega (arith, c.loop-test.false, l.loop.invariant.1) in
-    λ r h. evaluated-end _ r _ e (l.loop.invariant.0 r h)
+    λ r h. evaluated_end _ r _ e (l.loop.invariant.0 r h)
 
-pub evaluated-all-spec : {M : Type 1} → statement M
-evaluated-all-spec =
+pub evaluated_all_spec : {M : Type 1} → statement M
+evaluated_all_spec =
     tie.close
     (tie.spec
-    invariant-loop
-    decreases-loop
-    loop-holds
-    element-copy-out-index
-    index-requires
-    evaluated-requires
-    add-p
-    loop-less
-    loop-again
+    invariant_loop
+    decreases_loop
+    loop_holds
+    element_copy_out_index
+    index_requires
+    evaluated_requires
+    add_p
+    loop_less
+    loop_again
     returns)

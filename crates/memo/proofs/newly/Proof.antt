@@ -1,58 +1,58 @@
 -- `newly` meets its contract.
 use Prim.Native.Nat.{◌-◌, ◌≤◌}
 use native.Mathlib.Omega.{arith}
-use Rattle.common.specs.Limits.{mostFormulas}
-use Rattle.memo.proofs.Memos.{Counted, counted_none, counted-more, counted-all}
+use Rattle.common.specs.Limits.{most_formulas}
+use Rattle.memo.proofs.Memos.{Counted, counted_none, counted_more, counted_all}
 use borrow.Author.Rules.{rules}
 use Rattle.memo.proofs.newly.Statement.{statement}
 use Rattle.memo.proofs.newly.Tie as tie
 
-abbrev invariant-loop : tie.invariant-loop
-invariant-loop before after count₀ f₀ count f = Counted before after count f × (f ≤ mostFormulas)
+abbrev invariant_loop : tie.invariant_loop
+invariant_loop before after count₀ f₀ count f = Counted before after count f × (f ≤ most_formulas)
 
-abbrev decreases-loop : tie.decreases-loop
-decreases-loop before after count₀ f₀ count f = mostFormulas - f
+abbrev decreases_loop : tie.decreases_loop
+decreases_loop before after count₀ f₀ count f = most_formulas - f
 
-loop-holds : tie.Need-loop-init invariant-loop decreases-loop
-loop-holds c = (counted_none _ _, omega arith)
+loop_holds : tie.Need-loop-init invariant_loop decreases_loop
+loop_holds c = (counted_none _ _, omega arith)
 
-element-copy-out-counted : tie.Need-element-copy-out-counted invariant-loop decreases-loop
-element-copy-out-counted c = search rules
+element_copy_out_counted : tie.Need-element-copy-out-counted invariant_loop decreases_loop
+element_copy_out_counted c = search rules
 
-element-copy-out-counted-2 : tie.Need-element-copy-out-counted-2 invariant-loop decreases-loop
-element-copy-out-counted-2 c = search rules
+element_copy_out_counted_2 : tie.Need-element-copy-out-counted-2 invariant_loop decreases_loop
+element_copy_out_counted_2 c = search rules
 
-counted-requires : tie.Need-counted-requires invariant-loop decreases-loop
-counted-requires c κs = search rules
+counted_requires : tie.Need-counted-requires invariant_loop decreases_loop
+counted_requires c κs = search rules
 
-add-count : tie.Need-overflow-add-count invariant-loop decreases-loop
-add-count c = omega (arith, c.before.before.before.before.loop.invariant.0.few, c.counted.ensures.1)
+add_count : tie.Need-overflow-add-count invariant_loop decreases_loop
+add_count c = omega (arith, c.before.before.before.before.loop.invariant.0.few, c.counted.ensures.1)
 
-add-f : tie.Need-overflow-add-f invariant-loop decreases-loop
-add-f c = search rules
+add_f : tie.Need-overflow-add-f invariant_loop decreases_loop
+add_f c = search rules
 
-loop-less : tie.Need-loop-smaller invariant-loop decreases-loop
-loop-less c = search rules
+loop_less : tie.Need-loop-smaller invariant_loop decreases_loop
+loop_less c = search rules
 
-loop-again : tie.Need-loop-preserved invariant-loop decreases-loop
-loop-again c =
-    (counted-more _ _ c.before.before.before.before.loop.invariant.0 c.counted.ensures.0 c.counted.ensures.1, omega arith)
+loop_again : tie.Need-loop-preserved invariant_loop decreases_loop
+loop_again c =
+    (counted_more _ _ c.before.before.before.before.loop.invariant.0 c.counted.ensures.0 c.counted.ensures.1, omega arith)
 
-returns : tie.Need-returns invariant-loop decreases-loop
-returns c = counted-all _ _ c.before.loop.invariant.0 (omega arith)
+returns : tie.Need-returns invariant_loop decreases_loop
+returns c = counted_all _ _ c.before.loop.invariant.0 (omega arith)
 
-pub newly-spec : {M : Type 1} → statement M
-newly-spec =
+pub newly_spec : {M : Type 1} → statement M
+newly_spec =
     tie.close
     (tie.spec
-    invariant-loop
-    decreases-loop
-    loop-holds
-    element-copy-out-counted
-    element-copy-out-counted-2
-    counted-requires
-    add-count
-    add-f
-    loop-less
-    loop-again
+    invariant_loop
+    decreases_loop
+    loop_holds
+    element_copy_out_counted
+    element_copy_out_counted_2
+    counted_requires
+    add_count
+    add_f
+    loop_less
+    loop_again
     returns)

@@ -4,15 +4,15 @@ use Rattle.policy.specs.Table as table
 use Rattle.policy.proofs.blank.Statement.{statement}
 use Rattle.policy.proofs.blank.Tie as tie
 
-no-index-requires : tie.Need-no-index-requires
-no-index-requires c κs = search rules
+no_index_requires : tie.Need-no-index-requires
+no_index_requires c κs = search rules
 
-emptied-requires : tie.Need-emptied-requires
-emptied-requires c κs = search rules
+emptied_requires : tie.Need-emptied-requires
+emptied_requires c κs = search rules
 
 returns : tie.Need-returns
-unfolding table.blank table.withMemo table.withIndex
-returns c = λ j. table.withMemo (table.withIndex table.blank (c.before.no_index.ensures j)) (c.emptied.ensures j)
+unfolding table.blank table.with_memo table.with_index
+returns c = λ j. table.with_memo (table.with_index table.blank (c.before.no_index.ensures j)) (c.emptied.ensures j)
 
-pub blank-spec : {M : Type 1} → statement M
-blank-spec = tie.close (tie.spec no-index-requires emptied-requires returns)
+pub blank_spec : {M : Type 1} → statement M
+blank_spec = tie.close (tie.spec no_index_requires emptied_requires returns)

@@ -8,5 +8,5 @@ returns : tie.Need-returns
 unfolding table.emptied
 returns c = refl
 
-pub emptied-spec : {M : Type 1} → statement M
-emptied-spec = tie.close (tie.spec returns)
+pub emptied_spec : {M : Type 1} → statement M
+emptied_spec = tie.close (tie.spec returns)

@@ -5,8 +5,8 @@ use Rattle.policy.proofs.no_index.Statement.{statement}
 use Rattle.policy.proofs.no_index.Tie as tie
 
 returns : tie.Need-returns
-unfolding table.noIndex
+unfolding table.no_index
 returns c = refl
 
-pub no-index-spec : {M : Type 1} → statement M
-no-index-spec = tie.close (tie.spec returns)
+pub no_index_spec : {M : Type 1} → statement M
+no_index_spec = tie.close (tie.spec returns)

@@ -2,87 +2,87 @@
 use mathlib.Core.Path.{◌≡◌, sym, ◌∙◌}
 use Prim.Native.Nat.{◌<◌}
 use mathlib.Core.Bool.{true}
-use Rattle.common.specs.Limits.{mostMethods}
-use Rattle.policy.specs.Loadable.{tableLoads}
+use Rattle.common.specs.Limits.{most_methods}
+use Rattle.policy.specs.Loadable.{table_loads}
 use native.Mathlib.Omega.{arith}
-use Rattle.policy.specs.LoadableLaws.{table-few, loadable-table}
+use Rattle.policy.specs.LoadableLaws.{table_few, loadable_table}
 use Rattle.policy.specs.Table.{Kind, principal, method}
-use Rattle.predicates.proofs.Verdicts.{liberal-yes}
-use Rattle.justification.specs.Predicates.{questionRefusal}
-use Rattle.justification.specs.GuardLaws.{grants-fit, granted-below}
-use Rattle.justification.proofs.Asking.{Asked, asked, refusal_is, few-users, liberal-refused, liberal-is}
+use Rattle.predicates.proofs.Verdicts.{liberal_yes}
+use Rattle.justification.specs.Predicates.{question_refusal}
+use Rattle.justification.specs.GuardLaws.{grants_fit, granted_below}
+use Rattle.justification.proofs.Asking.{Asked, asked, refusal_is, few_users, liberal_refused, liberal_is}
 use borrow.Author.Rules.{rules}
 use Rattle.predicates.proofs.liberal_given.Statement.{statement}
 use Rattle.predicates.proofs.liberal_given.Tie as tie
 
-question-refusal-requires : tie.Need-question-refusal-requires
-question-refusal-requires c κs = few-users c.before.before.args.t1 c.before.before.args.question c.before.before.requires
+question_refusal_requires : tie.Need-question-refusal-requires
+question_refusal_requires c κs = few_users c.before.before.args.t1 c.before.before.args.question c.before.before.requires
 
 -- the number is that of the record's refusal
 module _ (h : tie.After-question-refusal) where
   abbrev entry : tie.Start
   entry = h.before.before.before
 
-  number_is : h.question-refusal.result ≡ questionRefusal entry.args.t1 entry.args.question
+  number_is : h.question-refusal.result ≡ question_refusal entry.args.t1 entry.args.question
   number_is = refusal_is entry.args.t1 entry.args.question entry.pre h.question-refusal.ensures
 
 returns : tie.Need-returns
-returns c = liberal-refused _ _ (number_is c.before) c.if1.true
+returns c = liberal_refused _ _ (number_is c.before) c.if1.true
 
-index-requires : tie.Need-index-requires
-index-requires c κs = search rules
+index_requires : tie.Need-index-requires
+index_requires c κs = search rules
 
 -- past the test of the number: the question may be put
 module _ (h : tie.After-index) where
   abbrev start : tie.Start
   start = entry h.before.before
 
-  no-refusal : 0 ≡ questionRefusal start.args.t1 start.args.question
-  no-refusal = sym h.before.if1.left ∙ number_is h.before.before
+  no_refusal : 0 ≡ question_refusal start.args.t1 start.args.question
+  no_refusal = sym h.before.if1.left ∙ number_is h.before.before
 
   may : Asked start.args.t1 start.args.question
-  may = asked _ _ (sym no-refusal)
+  may = asked _ _ (sym no_refusal)
 
-  tables : (j : Kind) → tableLoads start.args.t1 j ≡ true
-  tables = loadable-table _ may.loads
+  tables : (j : Kind) → table_loads start.args.t1 j ≡ true
+  tables = loadable_table _ may.loads
 
-  in-range : h.index.result < mostMethods
-  in-range = let n = table-few _ method (tables method) in omega (arith, h.index.ensures, may.method)
+  in_range_lem : h.index.result < most_methods
+  in_range_lem = let n = table_few _ method (tables method) in omega (arith, h.index.ensures, may.method)
 
-mul-listed : tie.Need-overflow-mul-listed
-mul-listed c = omega (arith, in-range c)
+mul_listed : tie.Need-overflow-mul-listed
+mul_listed c = omega (arith, in_range_lem c)
 
-element-copy-out-listed : tie.Need-element-copy-out-listed
-element-copy-out-listed c = in-range c
+element_copy_out_listed : tie.Need-element-copy-out-listed
+element_copy_out_listed c = in_range_lem c
 
-listed-requires : tie.Need-listed-requires
-listed-requires c κs = search rules
+listed_requires : tie.Need-listed-requires
+listed_requires c κs = search rules
 
-grants-of-requires : tie.Need-grants-of-requires
-grants-of-requires c κs =
-    let h = c.before.before.before.before.before.before.before in grants-fit (start h).args.t1 (tables h)
+grants_of_requires : tie.Need-grants-of-requires
+grants_of_requires c κs =
+    let h = c.before.before.before.before.before.before.before in grants_fit (start h).args.t1 (tables h)
 
 -- the method's index, from the privileges of the principals
 abbrev indexed : tie.After-grants-of → tie.After-index
 indexed c = c.before.before.before.before.before.before.before.before
 
-meeting-requires : tie.Need-meeting-requires
-meeting-requires c κs = table-few _ principal (tables (indexed c) principal)
+meeting_requires : tie.Need-meeting-requires
+meeting_requires c κs = table_few _ principal (tables (indexed c) principal)
 
-enabled-of-requires : tie.Need-enabled-of-requires
-enabled-of-requires c κs = (may (indexed c.before)).loads
+enabled_of_requires : tie.Need-enabled-of-requires
+enabled_of_requires c κs = (may (indexed c.before)).loads
 
-gathered-requires : tie.Need-gathered-requires
-gathered-requires c κs = table-few _ principal (tables (indexed c.before.before) principal)
+gathered_requires : tie.Need-gathered-requires
+gathered_requires c κs = table_few _ principal (tables (indexed c.before.before) principal)
 
-element-copy-out-meets : tie.Need-element-copy-out-meets
-element-copy-out-meets c = in-range (indexed c.before.before.before)
+element_copy_out_meets : tie.Need-element-copy-out-meets
+element_copy_out_meets c = in_range_lem (indexed c.before.before.before)
 
-meets-requires : tie.Need-meets-requires
-meets-requires c κs = search rules
+meets_requires : tie.Need-meets-requires
+meets_requires c κs = search rules
 
-returns-2 : tie.Need-returns-2
-returns-2 c =
+returns_2 : tie.Need-returns-2
+returns_2 c =
     let g = c.before.before in
     let e = g.before in
     let m = e.before in
@@ -91,27 +91,27 @@ returns-2 c =
     let l = gr.before.before.before.before.before.before in
     let s = start h in
     let r = s.args.t1 in
-    liberal-is r _ (no-refusal h) c.meets.result
-    (liberal-yes r s.args.question m.meeting.result e.enabled-of.result gr.grants-of.result
-    (granted-below r gr.grants-of.result gr.grants-of.ensures)
+    liberal_is r _ (no_refusal h) c.meets.result
+    (liberal_yes r s.args.question m.meeting.result e.enabled-of.result gr.grants-of.result
+    (granted_below r gr.grants-of.result gr.grants-of.ensures)
     e.enabled-of.ensures
     h.index.ensures l.listed.ensures.0 l.listed.ensures.1 m.meeting.ensures g.gathered.result c.meets.result
     g.gathered.ensures c.meets.ensures)
 
-pub liberal-given-spec : {M : Type 1} → statement M
-liberal-given-spec =
+pub liberal_given_spec : {M : Type 1} → statement M
+liberal_given_spec =
     tie.close
     (tie.spec
-    question-refusal-requires
+    question_refusal_requires
     returns
-    index-requires
-    mul-listed
-    element-copy-out-listed
-    listed-requires
-    grants-of-requires
-    meeting-requires
-    enabled-of-requires
-    gathered-requires
-    element-copy-out-meets
-    meets-requires
-    returns-2)
+    index_requires
+    mul_listed
+    element_copy_out_listed
+    listed_requires
+    grants_of_requires
+    meeting_requires
+    enabled_of_requires
+    gathered_requires
+    element_copy_out_meets
+    meets_requires
+    returns_2)

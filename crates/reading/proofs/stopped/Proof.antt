@@ -4,11 +4,11 @@ use borrow.Author.Rules.{rules}
 use Rattle.reading.proofs.stopped.Statement.{statement}
 use Rattle.reading.proofs.stopped.Tie as tie
 
-add-stop : tie.Need-overflow-add-stop
-add-stop c = search rules
+add_stop : tie.Need-overflow-add-stop
+add_stop c = search rules
 
 returns : tie.Need-returns
 returns c = refl
 
-pub stopped-spec : {M : Type 1} → statement M
-stopped-spec = tie.close (tie.spec add-stop returns)
+pub stopped_spec : {M : Type 1} → statement M
+stopped_spec = tie.close (tie.spec add_stop returns)

@@ -1,63 +1,63 @@
 -- `full_graph` ends and stores within its arrays.
 use Prim.Native.Nat.{◌-◌, ◌≤◌}
 use borrow.Author.Rules.{rules}
-use Rattle.common.specs.Limits.{mostEdges}
+use Rattle.common.specs.Limits.{most_edges}
 use Rattle.record_columns.proofs.full_graph.Statement.{statement}
 use Rattle.record_columns.proofs.full_graph.Tie as tie
 
-abbrev invariant-loop : tie.invariant-loop
-invariant-loop rules₀ i₀ rules i = i ≤ mostEdges
+abbrev invariant_loop : tie.invariant_loop
+invariant_loop rules₀ i₀ rules i = i ≤ most_edges
 
-abbrev decreases-loop : tie.decreases-loop
-decreases-loop rules₀ i₀ rules i = mostEdges - i
+abbrev decreases_loop : tie.decreases_loop
+decreases_loop rules₀ i₀ rules i = most_edges - i
 
-full-index-requires : tie.Need-full-index-requires invariant-loop decreases-loop
-full-index-requires c κs = search rules
+full_index_requires : tie.Need-full-index-requires invariant_loop decreases_loop
+full_index_requires c κs = search rules
 
-loop-holds : tie.Need-loop-init invariant-loop decreases-loop
-loop-holds c = search rules
+loop_holds : tie.Need-loop-init invariant_loop decreases_loop
+loop_holds c = search rules
 
-element-write-rules : tie.Need-element-write-rules invariant-loop decreases-loop
-element-write-rules c = search rules
+element_write_rules : tie.Need-element-write-rules invariant_loop decreases_loop
+element_write_rules c = search rules
 
-cast-rules : tie.Need-overflow-cast-rules invariant-loop decreases-loop
-cast-rules c = search rules
+cast_rules : tie.Need-overflow-cast-rules invariant_loop decreases_loop
+cast_rules c = search rules
 
-element-write-rules-2 : tie.Need-element-write-rules-2 invariant-loop decreases-loop
-element-write-rules-2 c = search rules
+element_write_rules_2 : tie.Need-element-write-rules-2 invariant_loop decreases_loop
+element_write_rules_2 c = search rules
 
-cast-rules-2 : tie.Need-overflow-cast-rules-2 invariant-loop decreases-loop
-cast-rules-2 c = search rules
+cast_rules_2 : tie.Need-overflow-cast-rules-2 invariant_loop decreases_loop
+cast_rules_2 c = search rules
 
-element-write-rules-3 : tie.Need-element-write-rules-3 invariant-loop decreases-loop
-element-write-rules-3 c = search rules
+element_write_rules_3 : tie.Need-element-write-rules-3 invariant_loop decreases_loop
+element_write_rules_3 c = search rules
 
-add-i : tie.Need-overflow-add-i invariant-loop decreases-loop
-add-i c = search rules
+add_i : tie.Need-overflow-add-i invariant_loop decreases_loop
+add_i c = search rules
 
-loop-less : tie.Need-loop-smaller invariant-loop decreases-loop
-loop-less c = search rules
+loop_less : tie.Need-loop-smaller invariant_loop decreases_loop
+loop_less c = search rules
 
-loop-again : tie.Need-loop-preserved invariant-loop decreases-loop
-loop-again c = search rules
+loop_again : tie.Need-loop-preserved invariant_loop decreases_loop
+loop_again c = search rules
 
-returns : tie.Need-returns invariant-loop decreases-loop
+returns : tie.Need-returns invariant_loop decreases_loop
 returns c = search rules
 
-pub full-graph-spec : {M : Type 1} → statement M
-full-graph-spec =
+pub full_graph_spec : {M : Type 1} → statement M
+full_graph_spec =
     tie.close
     (tie.spec
-    invariant-loop
-    decreases-loop
-    full-index-requires
-    loop-holds
-    element-write-rules
-    cast-rules
-    element-write-rules-2
-    cast-rules-2
-    element-write-rules-3
-    add-i
-    loop-less
-    loop-again
+    invariant_loop
+    decreases_loop
+    full_index_requires
+    loop_holds
+    element_write_rules
+    cast_rules
+    element_write_rules_2
+    cast_rules_2
+    element_write_rules_3
+    add_i
+    loop_less
+    loop_again
     returns)

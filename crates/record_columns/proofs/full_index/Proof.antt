@@ -1,67 +1,67 @@
 -- `full_index` ends and stores within its arrays.
 use Prim.Native.Nat.{◌-◌, ◌≤◌}
 use borrow.Author.Rules.{rules}
-use Rattle.common.specs.Limits.{mostEdges}
+use Rattle.common.specs.Limits.{most_edges}
 use Rattle.record_columns.proofs.full_index.Statement.{statement}
 use Rattle.record_columns.proofs.full_index.Tie as tie
 
-abbrev invariant-loop : tie.invariant-loop
-invariant-loop index₀ i₀ index i = i ≤ mostEdges
+abbrev invariant_loop : tie.invariant_loop
+invariant_loop index₀ i₀ index i = i ≤ most_edges
 
-abbrev decreases-loop : tie.decreases-loop
-decreases-loop index₀ i₀ index i = mostEdges - i
+abbrev decreases_loop : tie.decreases_loop
+decreases_loop index₀ i₀ index i = most_edges - i
 
-element-write-index : tie.Need-element-write-index invariant-loop decreases-loop
-element-write-index c = search rules
+element_write_index : tie.Need-element-write-index invariant_loop decreases_loop
+element_write_index c = search rules
 
-element-write-index-2 : tie.Need-element-write-index-2 invariant-loop decreases-loop
-element-write-index-2 c = search rules
+element_write_index_2 : tie.Need-element-write-index-2 invariant_loop decreases_loop
+element_write_index_2 c = search rules
 
-loop-holds : tie.Need-loop-init invariant-loop decreases-loop
-loop-holds c = search rules
+loop_holds : tie.Need-loop-init invariant_loop decreases_loop
+loop_holds c = search rules
 
-mul-index : tie.Need-overflow-mul-index invariant-loop decreases-loop
-mul-index c = search rules
+mul_index : tie.Need-overflow-mul-index invariant_loop decreases_loop
+mul_index c = search rules
 
-add-index : tie.Need-overflow-add-index invariant-loop decreases-loop
-add-index c = search rules
+add_index : tie.Need-overflow-add-index invariant_loop decreases_loop
+add_index c = search rules
 
-cast-index : tie.Need-overflow-cast-index invariant-loop decreases-loop
-cast-index c = search rules
+cast_index : tie.Need-overflow-cast-index invariant_loop decreases_loop
+cast_index c = search rules
 
-mul-index-2 : tie.Need-overflow-mul-index-2 invariant-loop decreases-loop
-mul-index-2 c = search rules
+mul_index_2 : tie.Need-overflow-mul-index-2 invariant_loop decreases_loop
+mul_index_2 c = search rules
 
-element-write-index-3 : tie.Need-element-write-index-3 invariant-loop decreases-loop
-element-write-index-3 c = search rules
+element_write_index_3 : tie.Need-element-write-index-3 invariant_loop decreases_loop
+element_write_index_3 c = search rules
 
-add-i : tie.Need-overflow-add-i invariant-loop decreases-loop
-add-i c = search rules
+add_i : tie.Need-overflow-add-i invariant_loop decreases_loop
+add_i c = search rules
 
-loop-less : tie.Need-loop-smaller invariant-loop decreases-loop
-loop-less c = search rules
+loop_less : tie.Need-loop-smaller invariant_loop decreases_loop
+loop_less c = search rules
 
-loop-again : tie.Need-loop-preserved invariant-loop decreases-loop
-loop-again c = search rules
+loop_again : tie.Need-loop-preserved invariant_loop decreases_loop
+loop_again c = search rules
 
-returns : tie.Need-returns invariant-loop decreases-loop
+returns : tie.Need-returns invariant_loop decreases_loop
 returns c = search rules
 
-pub full-index-spec : {M : Type 1} → statement M
-full-index-spec =
+pub full_index_spec : {M : Type 1} → statement M
+full_index_spec =
     tie.close
     (tie.spec
-    invariant-loop
-    decreases-loop
-    element-write-index
-    element-write-index-2
-    loop-holds
-    mul-index
-    add-index
-    cast-index
-    mul-index-2
-    element-write-index-3
-    add-i
-    loop-less
-    loop-again
+    invariant_loop
+    decreases_loop
+    element_write_index
+    element_write_index_2
+    loop_holds
+    mul_index
+    add_index
+    cast_index
+    mul_index_2
+    element_write_index_3
+    add_i
+    loop_less
+    loop_again
     returns)

@@ -7,5 +7,5 @@ use Rattle.replay.proofs.number_decision.Tie as tie
 returns : tie.Need-returns
 returns c = λ r e. stays r _ refl e
 
-pub number-decision-spec : {M : Type 1} → statement M
-number-decision-spec = tie.close (tie.spec returns)
+pub number_decision_spec : {M : Type 1} → statement M
+number_decision_spec = tie.close (tie.spec returns)

@@ -5,8 +5,8 @@ use Rattle.replay.specs.declared.Replayed.{Replayed}
 use Rattle.replay.proofs.replay.Statement.{statement}
 use Rattle.replay.proofs.replay.Tie as tie
 
-answer-all-requires : tie.Need-answer-all-requires
-answer-all-requires c κs = search rules
+answer_all_requires : tie.Need-answer-all-requires
+answer_all_requires c κs = search rules
 
 same_length : tie.Need-same-length
 same_length c = search rules
@@ -14,5 +14,5 @@ same_length c = search rules
 returns : tie.Need-returns
 returns c = let e = c.before.before.answer-all.ensures in (ap (λ (x : Replayed). x.count) e.0, e.1, e.2)
 
-pub replay-spec : {M : Type 1} → statement M
-replay-spec = tie.close (tie.spec answer-all-requires same_length returns)
+pub replay_spec : {M : Type 1} → statement M
+replay_spec = tie.close (tie.spec answer_all_requires same_length returns)

@@ -1,35 +1,35 @@
 -- `main` is safe and ends: what it prints lies within the output.
 use borrow.Author.Rules.{rules}
-use Rattle.rewriting.specs.ProgramLaws.{shown-within}
+use Rattle.rewriting.specs.ProgramLaws.{shown_within}
 use Rattle.rewrite.proofs.main.Statement.{statement}
 use Rattle.rewrite.proofs.main.Tie as tie
 
-slice-aggregate-read-full : tie.Need-slice-aggregate-read-full
-slice-aggregate-read-full c = search rules
+slice_aggregate_read_full : tie.Need-slice-aggregate-read-full
+slice_aggregate_read_full c = search rules
 
-read-full-requires : tie.Need-read-full-requires
-read-full-requires c κs = search rules
+read_full_requires : tie.Need-read-full-requires
+read_full_requires c κs = search rules
 
-array-share-prefix-input : tie.Need-array-share-prefix-input
-array-share-prefix-input c = search rules
+array_share_prefix_input : tie.Need-array-share-prefix-input
+array_share_prefix_input c = search rules
 
-slice-aggregate-rewritten : tie.Need-slice-aggregate-rewritten
-slice-aggregate-rewritten c = search rules
+slice_aggregate_rewritten : tie.Need-slice-aggregate-rewritten
+slice_aggregate_rewritten c = search rules
 
-slice-aggregate-rewritten-2 : tie.Need-slice-aggregate-rewritten-2
-slice-aggregate-rewritten-2 c = search rules
+slice_aggregate_rewritten_2 : tie.Need-slice-aggregate-rewritten-2
+slice_aggregate_rewritten_2 c = search rules
 
-rewritten-requires : tie.Need-rewritten-requires
-rewritten-requires c κs = search rules
+rewritten_requires : tie.Need-rewritten-requires
+rewritten_requires c κs = search rules
 
-array-share-prefix-output : tie.Need-array-share-prefix-output
-array-share-prefix-output c = (shown-within _ _ c.before.rewritten.ensures).0
+array_share_prefix_output : tie.Need-array-share-prefix-output
+array_share_prefix_output c = (shown_within _ _ c.before.rewritten.ensures).0
 
-slice-aggregate-write-all : tie.Need-slice-aggregate-write-all
-slice-aggregate-write-all c = (shown-within _ _ c.before.before.rewritten.ensures).1
+slice_aggregate_write_all : tie.Need-slice-aggregate-write-all
+slice_aggregate_write_all c = (shown_within _ _ c.before.before.rewritten.ensures).1
 
-write-all-requires : tie.Need-write-all-requires
-write-all-requires c κs = search rules
+write_all_requires : tie.Need-write-all-requires
+write_all_requires c κs = search rules
 
 returns : tie.Need-returns
 returns c = search rules
@@ -38,13 +38,13 @@ pub main_spec : {M : Type 1} → statement M
 main_spec =
     tie.close
     (tie.spec
-    slice-aggregate-read-full
-    read-full-requires
-    array-share-prefix-input
-    slice-aggregate-rewritten
-    slice-aggregate-rewritten-2
-    rewritten-requires
-    array-share-prefix-output
-    slice-aggregate-write-all
-    write-all-requires
+    slice_aggregate_read_full
+    read_full_requires
+    array_share_prefix_input
+    slice_aggregate_rewritten
+    slice_aggregate_rewritten_2
+    rewritten_requires
+    array_share_prefix_output
+    slice_aggregate_write_all
+    write_all_requires
     returns)

@@ -5,14 +5,14 @@ use borrow.Author.Rules.{rules}
 use Rattle.rows.proofs.after_pair.Statement.{statement}
 use Rattle.rows.proofs.after_pair.Tie as tie
 
-pair-key-requires : tie.Need-pair-key-requires
-pair-key-requires c κs = search rules
+pair_key_requires : tie.Need-pair-key-requires
+pair_key_requires c κs = search rules
 
-add-result : tie.Need-overflow-add-result
-add-result c = search rules
+add_result : tie.Need-overflow-add-result
+add_result c = search rules
 
 returns : tie.Need-returns
-returns c = ap (λ (k : ℕ). k + 1) c.pair-key.ensures
+returns c = ap (λ (k : ℕ). k + 1) c.pair_key_lem.ensures
 
-pub after-pair-spec : {M : Type 1} → statement M
-after-pair-spec = tie.close (tie.spec pair-key-requires add-result returns)
+pub after_pair_spec : {M : Type 1} → statement M
+after_pair_spec = tie.close (tie.spec pair_key_requires add_result returns)

@@ -6,5 +6,5 @@ use Rattle.rows.proofs.edge_in_range.Tie as tie
 returns : tie.Need-returns
 returns c = search rules
 
-pub edge-in-range-spec : {M : Type 1} → statement M
-edge-in-range-spec = tie.close (tie.spec returns)
+pub edge_in_range_spec : {M : Type 1} → statement M
+edge_in_range_spec = tie.close (tie.spec returns)

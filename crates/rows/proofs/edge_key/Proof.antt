@@ -4,20 +4,20 @@ use borrow.Author.Rules.{rules}
 use Rattle.rows.proofs.edge_key.Statement.{statement}
 use Rattle.rows.proofs.edge_key.Tie as tie
 
-mul-result : tie.Need-overflow-mul-result
-mul-result c = search rules
+mul_result : tie.Need-overflow-mul-result
+mul_result c = search rules
 
-mul-result-2 : tie.Need-overflow-mul-result-2
-mul-result-2 c = search rules
+mul_result_2 : tie.Need-overflow-mul-result-2
+mul_result_2 c = search rules
 
-add-result : tie.Need-overflow-add-result
-add-result c = search rules
+add_result : tie.Need-overflow-add-result
+add_result c = search rules
 
-add-result-2 : tie.Need-overflow-add-result-2
-add-result-2 c = search rules
+add_result_2 : tie.Need-overflow-add-result-2
+add_result_2 c = search rules
 
 returns : tie.Need-returns
 returns c = refl
 
-pub edge-key-spec : {M : Type 1} → statement M
-edge-key-spec = tie.close (tie.spec mul-result mul-result-2 add-result add-result-2 returns)
+pub edge_key_spec : {M : Type 1} → statement M
+edge_key_spec = tie.close (tie.spec mul_result mul_result_2 add_result add_result_2 returns)

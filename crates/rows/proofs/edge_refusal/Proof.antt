@@ -2,30 +2,30 @@
 use mathlib.Core.Path.{◌∙◌}
 use mathlib.Core.Bool.{not}
 use lib.Dec.{ltb, leb}
-use Rattle.common.specs.Limits.{mostEdges}
+use Rattle.common.specs.Limits.{most_edges}
 use Rattle.common.specs.Causes.{first}
 use Rattle.rows.specs.Checks.{causes}
 use borrow.Author.Rules.{rules}
 use Rattle.rows.proofs.edge_refusal.Statement.{statement}
 use Rattle.rows.proofs.edge_refusal.Tie as tie
 
-edge-in-range-requires : tie.Need-edge-in-range-requires
-edge-in-range-requires c κs = search rules
+edge_in_range_requires : tie.Need-edge-in-range-requires
+edge_in_range_requires c κs = search rules
 
-edge-key-requires : tie.Need-edge-key-requires
-edge-key-requires c κs = search rules
+edge_key_requires : tie.Need-edge-key-requires
+edge_key_requires c κs = search rules
 
-first-cause-requires : tie.Need-first-cause-requires
-first-cause-requires c κs = search rules
+first_cause_requires : tie.Need-first-cause-requires
+first_cause_requires c κs = search rules
 
 returns : tie.Need-returns
 returns c =
     let a = c.before.before.before.args in
     c.first-cause.ensures
     ∙ (λ i. first
-    (causes (leb mostEdges a.row) (not (c.before.before.edge-in-range.ensures i))
-    (ltb (c.before.edge-key.ensures i) a.minimum)))
+    (causes (leb most_edges a.row) (not (c.before.before.edge-in-range.ensures i))
+    (ltb (c.before.edge_key_lem.ensures i) a.minimum)))
 
-pub edge-refusal-spec : {M : Type 1} → statement M
-edge-refusal-spec =
-    tie.close (tie.spec edge-in-range-requires edge-key-requires first-cause-requires returns)
+pub edge_refusal_spec : {M : Type 1} → statement M
+edge_refusal_spec =
+    tie.close (tie.spec edge_in_range_requires edge_key_requires first_cause_requires returns)

@@ -8,18 +8,18 @@ use borrow.Author.Rules.{rules}
 use Rattle.rows.proofs.exclusion_refusal.Statement.{statement}
 use Rattle.rows.proofs.exclusion_refusal.Tie as tie
 
-pair-key-requires : tie.Need-pair-key-requires
-pair-key-requires c κs = search rules
+pair_key_requires : tie.Need-pair-key-requires
+pair_key_requires c κs = search rules
 
-first-cause-requires : tie.Need-first-cause-requires
-first-cause-requires c κs = search rules
+first_cause_requires : tie.Need-first-cause-requires
+first_cause_requires c κs = search rules
 
 returns : tie.Need-returns
 returns c =
     let a = c.before.before.args in
     c.first-cause.ensures
     ∙ (λ i. first
-    (causes false (not (ltb a.low a.high && ltb a.high a.principals)) (ltb (c.before.pair-key.ensures i) a.minimum)))
+    (causes false (not (ltb a.low a.high && ltb a.high a.principals)) (ltb (c.before.pair_key_lem.ensures i) a.minimum)))
 
-pub exclusion-refusal-spec : {M : Type 1} → statement M
-exclusion-refusal-spec = tie.close (tie.spec pair-key-requires first-cause-requires returns)
+pub exclusion_refusal_spec : {M : Type 1} → statement M
+exclusion_refusal_spec = tie.close (tie.spec pair_key_requires first_cause_requires returns)

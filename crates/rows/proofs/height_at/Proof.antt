@@ -6,14 +6,14 @@ use borrow.Author.Rules.{rules}
 use Rattle.rows.proofs.height_at.Statement.{statement}
 use Rattle.rows.proofs.height_at.Tie as tie
 
-array-read-result : tie.Need-array-read-result
-array-read-result c = search rules
+array_read_result : tie.Need-array-read-result
+array_read_result c = search rules
 
 returns : tie.Need-returns
 returns c = search rules
 
-returns-2 : tie.Need-returns-2
-returns-2 c = sym (get_or-eq_default c.before.args.t1 0 (omega (arith, c.before.well-formed.0.1.0.1)))
+returns_2 : tie.Need-returns-2
+returns_2 c = sym (get_or-eq_default c.before.args.t1 0 (omega (arith, c.before.well-formed.0.1.0.1)))
 
-pub height-at-spec : {M : Type 1} → statement M
-height-at-spec = tie.close (tie.spec array-read-result returns returns-2)
+pub height_at_spec : {M : Type 1} → statement M
+height_at_spec = tie.close (tie.spec array_read_result returns returns_2)

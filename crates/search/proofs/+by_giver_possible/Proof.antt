@@ -3,11 +3,11 @@
 use Rattle.std.proofs.Common.{ℕ, ◌+◌, ◌-◌, ◌*◌, ◌<◌, subst, ⊎_elim, arith, rules}
 use lib.Bits.{bit_or}
 use lib.Count.{ones-le}
-use Rattle.common.specs.Limits.{mostPrincipals}
+use Rattle.common.specs.Limits.{most_principals}
 use Rattle.common.specs.Lists.{at}
 use Rattle.search.specs.Steps.{NoneHolds, NoneFrom}
-use Rattle.search.proofs.Decide.{true-not-false}
-use Rattle.search.proofs.Prunes.{none-wanted, no_room, no-giver, past_all, none_between, neither-way}
+use Rattle.search.proofs.Decide.{true_not_false}
+use Rattle.search.proofs.Prunes.{none_wanted, no_room, no_giver, past_all, none_between, neither_way}
 use borrow.Fn.Kinds.{In}
 use borrow.Fn.PlainCycle.{Measures, is, falls, and}
 use Rattle.search.proofs.by_giver.Reads as by-giver
@@ -25,28 +25,28 @@ use Rattle.search.proofs.next_giver.Reads as next-giver-reads
 use Rattle.search.proofs.+by_giver_possible.{statement}
 use Rattle.search.proofs.+by_giver_possible.Tie.{close}
 
-abbrev μ-by-giver : Measures 0 by-giver-kinds.ps ℕ
-μ-by-giver κs a = (mostPrincipals + 2) * a.1.1.0 + (mostPrincipals - a.1.1.1.1.1.1.0)
+abbrev μ_by_giver : Measures 0 by-giver-kinds.ps ℕ
+μ_by_giver κs a = (most_principals + 2) * a.1.1.0 + (most_principals - a.1.1.1.1.1.1.0)
 
-abbrev μ-possible : Measures 0 possible-kinds.ps ℕ
-μ-possible κs a = (mostPrincipals + 2) * a.1.1.0 + (mostPrincipals + 1)
+abbrev μ_possible : Measures 0 possible-kinds.ps ℕ
+μ_possible κs a = (most_principals + 2) * a.1.1.0 + (most_principals + 1)
 
-abbrev by-giver-at : ℕ → In 0 by-giver-kinds.ps
-by-giver-at t = and 0 by-giver-kinds.ps (is 0 by-giver-kinds.ps μ-by-giver t) by-giver.Pre
+abbrev by_giver_at : ℕ → In 0 by-giver-kinds.ps
+by_giver_at t = and 0 by-giver-kinds.ps (is 0 by-giver-kinds.ps μ_by_giver t) by-giver.Pre
 
-abbrev by-giver-below : ℕ → In 0 by-giver-kinds.ps
-by-giver-below t =
-    and 0 by-giver-kinds.ps (falls 0 by-giver-kinds.ps ◌<◌ μ-by-giver t) by-giver.Pre
+abbrev by_giver_below : ℕ → In 0 by-giver-kinds.ps
+by_giver_below t =
+    and 0 by-giver-kinds.ps (falls 0 by-giver-kinds.ps ◌<◌ μ_by_giver t) by-giver.Pre
 
-abbrev possible-at : ℕ → In 0 possible-kinds.ps
-possible-at t = and 0 possible-kinds.ps (is 0 possible-kinds.ps μ-possible t) possible.Pre
+abbrev possible_at : ℕ → In 0 possible-kinds.ps
+possible_at t = and 0 possible-kinds.ps (is 0 possible-kinds.ps μ_possible t) possible.Pre
 
-abbrev possible-below : ℕ → In 0 possible-kinds.ps
-possible-below t =
-    and 0 possible-kinds.ps (falls 0 possible-kinds.ps ◌<◌ μ-possible t) possible.Pre
+abbrev possible_below : ℕ → In 0 possible-kinds.ps
+possible_below t =
+    and 0 possible-kinds.ps (falls 0 possible-kinds.ps ◌<◌ μ_possible t) possible.Pre
 
-abbrev giver-claims : ℕ → by-giver-lts.Claims
-giver-claims t = (
+abbrev giver_claims : ℕ → by-giver-lts.Claims
+giver_claims t = (
   next-giver-reads.Asked,
   next-giver-reads.Learnt,
   add_reads.Asked,
@@ -55,66 +55,66 @@ giver-claims t = (
   admissible-reads.Learnt,
   gathered-reads.Asked,
   gathered-reads.Learnt,
-  possible-below t,
+  possible_below t,
   possible.Post,
-  by-giver-below t,
+  by_giver_below t,
   by-giver.Post,
 )
 
-abbrev possible-claims : ℕ → possible-lts.Claims
-possible-claims t = (
+abbrev possible_claims : ℕ → possible-lts.Claims
+possible_claims t = (
   meets-reads.Asked,
   meets-reads.Learnt,
   asked-reads.Asked,
   asked-reads.Learnt,
-  by-giver-below t,
+  by_giver_below t,
   by-giver.Post,
 )
 
-by-giver-next-giver-requires : (t : ℕ) → by-giver-lts.Need-next-giver-requires (giver-claims t) (by-giver-at t) by-giver.Post
-by-giver-next-giver-requires t c κs = search rules
+by_giver_next_giver_requires : (t : ℕ) → by-giver-lts.Need-next-giver-requires (giver_claims t) (by_giver_at t) by-giver.Post
+by_giver_next_giver_requires t c κs = search rules
 
-by-giver-returns : (t : ℕ) → by-giver-lts.Need-returns (giver-claims t) (by-giver-at t) by-giver.Post
-by-giver-returns t c =
+by_giver_returns : (t : ℕ) → by-giver-lts.Need-returns (giver_claims t) (by_giver_at t) by-giver.Post
+by_giver_returns t c =
     let n = c.before in
     let a = n.before.before.args in
     λ e. none_between a.p n.next-giver.result n.next-giver.ensures.1 (past_all c.if1.true)
 
-by-giver-add-requires : (t : ℕ) → by-giver-lts.Need-add-requires (giver-claims t) (by-giver-at t) by-giver.Post
-by-giver-add-requires t c κs = search rules
+by_giver_add_requires : (t : ℕ) → by-giver-lts.Need-add-requires (giver_claims t) (by_giver_at t) by-giver.Post
+by_giver_add_requires t c κs = search rules
 
-by-giver-mul-grown : (t : ℕ) → by-giver-lts.Need-overflow-mul-grown (giver-claims t) (by-giver-at t) by-giver.Post
-by-giver-mul-grown t c = search rules
+by_giver_mul_grown : (t : ℕ) → by-giver-lts.Need-overflow-mul-grown (giver_claims t) (by_giver_at t) by-giver.Post
+by_giver_mul_grown t c = search rules
 
-by-giver-element-copy-out-grown : (t : ℕ) → by-giver-lts.Need-element-copy-out-grown (giver-claims t) (by-giver-at t) by-giver.Post
-by-giver-element-copy-out-grown t c = search rules
+by_giver_element_copy_out_grown : (t : ℕ) → by-giver-lts.Need-element-copy-out-grown (giver_claims t) (by_giver_at t) by-giver.Post
+by_giver_element_copy_out_grown t c = search rules
 
-by-giver-admissible-requires : (t : ℕ) → by-giver-lts.Need-admissible-requires (giver-claims t) (by-giver-at t) by-giver.Post
-by-giver-admissible-requires t c κs = search rules
+by_giver_admissible_requires : (t : ℕ) → by-giver-lts.Need-admissible-requires (giver_claims t) (by_giver_at t) by-giver.Post
+by_giver_admissible_requires t c κs = search rules
 
-by-giver-gathered-requires : (t : ℕ) → by-giver-lts.Need-gathered-requires (giver-claims t) (by-giver-at t) by-giver.Post
-by-giver-gathered-requires t c κs = search rules
+by_giver_gathered_requires : (t : ℕ) → by-giver-lts.Need-gathered-requires (giver_claims t) (by_giver_at t) by-giver.Post
+by_giver_gathered_requires t c κs = search rules
 
-by-giver-sub-possible : (t : ℕ) → by-giver-lts.Need-overflow-sub-possible (giver-claims t) (by-giver-at t) by-giver.Post
-by-giver-sub-possible t c = search rules
+by_giver_sub_possible : (t : ℕ) → by-giver-lts.Need-overflow-sub-possible (giver_claims t) (by_giver_at t) by-giver.Post
+by_giver_sub_possible t c = search rules
 
-by-giver-possible-requires : (t : ℕ) → by-giver-lts.Need-possible-requires (giver-claims t) (by-giver-at t) by-giver.Post
-by-giver-possible-requires t c κs = search rules
+by_giver_possible_requires : (t : ℕ) → by-giver-lts.Need-possible-requires (giver_claims t) (by_giver_at t) by-giver.Post
+by_giver_possible_requires t c κs = search rules
 
-by-giver-returns-2 : (t : ℕ) → by-giver-lts.Need-returns-2 (giver-claims t) (by-giver-at t) by-giver.Post
-by-giver-returns-2 t c = λ e. absurd (true-not-false e)
+by_giver_returns_2 : (t : ℕ) → by-giver-lts.Need-returns-2 (giver_claims t) (by_giver_at t) by-giver.Post
+by_giver_returns_2 t c = λ e. absurd (true_not_false e)
 
-by-giver-add-requires-2 : (t : ℕ) → by-giver-lts.Need-add-requires-2 (giver-claims t) (by-giver-at t) by-giver.Post
-by-giver-add-requires-2 t c κs = search rules
+by_giver_add_requires_2 : (t : ℕ) → by-giver-lts.Need-add-requires-2 (giver_claims t) (by_giver_at t) by-giver.Post
+by_giver_add_requires_2 t c κs = search rules
 
-by-giver-add-by-giver : (t : ℕ) → by-giver-lts.Need-overflow-add-by-giver (giver-claims t) (by-giver-at t) by-giver.Post
-by-giver-add-by-giver t c = search rules
+by_giver_add_by_giver : (t : ℕ) → by-giver-lts.Need-overflow-add-by-giver (giver_claims t) (by_giver_at t) by-giver.Post
+by_giver_add_by_giver t c = search rules
 
-by-giver-by-giver-requires : (t : ℕ) → by-giver-lts.Need-by-giver-requires (giver-claims t) (by-giver-at t) by-giver.Post
-by-giver-by-giver-requires t c κs = search rules
+by_giver_by_giver_requires : (t : ℕ) → by-giver-lts.Need-by-giver-requires (giver_claims t) (by_giver_at t) by-giver.Post
+by_giver_by_giver_requires t c κs = search rules
 
-by-giver-returns-3 : (t : ℕ) → by-giver-lts.Need-returns-3 (giver-claims t) (by-giver-at t) by-giver.Post
-by-giver-returns-3 t c =
+by_giver_returns_3 : (t : ℕ) → by-giver-lts.Need-returns-3 (giver_claims t) (by_giver_at t) by-giver.Post
+by_giver_returns_3 t c =
     let joined = c.before.before in
     let tested = joined.before in
     let added = tested.before.before in
@@ -122,77 +122,77 @@ by-giver-returns-3 t c =
     let a = n.before.before.args in
     let g = n.next-giver.result in
     λ e. none_between a.p g n.next-giver.ensures.1
-    (neither-way g
+    (neither_way g
     (subst (λ (z : ℕ). NoneHolds a.t1 a.limit (bit_or z (at a.t1.needs g)) a.barred) added.add.ensures
     (⊎_elim (λ w. w.2.ensures w.3.left) (λ w. tested.admissible.ensures w.left) joined.if2.branch))
     (subst (λ (z : ℕ). NoneFrom a.t1 a.limit a.chosen z a.x (g + 1)) c.before.add2.ensures (c.by-giver.ensures e)))
 
-possible-meets-requires : (t : ℕ) → possible-lts.Need-meets-requires (possible-claims t) (possible-at t) possible.Post
-possible-meets-requires t c κs = search rules
+possible_meets_requires : (t : ℕ) → possible-lts.Need-meets-requires (possible_claims t) (possible_at t) possible.Post
+possible_meets_requires t c κs = search rules
 
-possible-returns : (t : ℕ) → possible-lts.Need-returns (possible-claims t) (possible-at t) possible.Post
-possible-returns t c = λ e. absurd (true-not-false e)
+possible_returns : (t : ℕ) → possible-lts.Need-returns (possible_claims t) (possible_at t) possible.Post
+possible_returns t c = λ e. absurd (true_not_false e)
 
-possible-returns-2 : (t : ℕ) → possible-lts.Need-returns-2 (possible-claims t) (possible-at t) possible.Post
-possible-returns-2 t c = λ e. none-wanted c.if2.true e
+possible_returns_2 : (t : ℕ) → possible-lts.Need-returns-2 (possible_claims t) (possible_at t) possible.Post
+possible_returns_2 t c = λ e. none_wanted c.if2.true e
 
-possible-cast-size : (t : ℕ) → possible-lts.Need-overflow-cast-size (possible-claims t) (possible-at t) possible.Post
-possible-cast-size t c =
+possible_cast_size : (t : ℕ) → possible-lts.Need-overflow-cast-size (possible_claims t) (possible_at t) possible.Post
+possible_cast_size t c =
     let start = c.before.before.before.before in
     record { fits = omega (arith, ones-le 32 start.args.chosen start.ranges.chosen.fits) }
 
-possible-returns-3 : (t : ℕ) → possible-lts.Need-returns-3 (possible-claims t) (possible-at t) possible.Post
-possible-returns-3 t c =
+possible_returns_3 : (t : ℕ) → possible-lts.Need-returns-3 (possible_claims t) (possible_at t) possible.Post
+possible_returns_3 t c =
     let unmet = c.before.before.before.before in
     let start = unmet.before.before in
     λ e. no_room start.requires.1.1 (unmet.before.meets.ensures.no unmet.if1.false) c.if3.true
 
-possible-returns-4 : (t : ℕ) → possible-lts.Need-returns-4 (possible-claims t) (possible-at t) possible.Post
-possible-returns-4 t c = λ e. absurd (true-not-false e)
+possible_returns_4 : (t : ℕ) → possible-lts.Need-returns-4 (possible_claims t) (possible_at t) possible.Post
+possible_returns_4 t c = λ e. absurd (true_not_false e)
 
-possible-asked-requires : (t : ℕ) → possible-lts.Need-asked-requires (possible-claims t) (possible-at t) possible.Post
-possible-asked-requires t c κs = (omega arith, c.before.before.before.if2.false)
+possible_asked_requires : (t : ℕ) → possible-lts.Need-asked-requires (possible_claims t) (possible_at t) possible.Post
+possible_asked_requires t c κs = (omega arith, c.before.before.before.if2.false)
 
-possible-by-giver-requires : (t : ℕ) → possible-lts.Need-by-giver-requires (possible-claims t) (possible-at t) possible.Post
-possible-by-giver-requires t c κs = search rules
+possible_by_giver_requires : (t : ℕ) → possible-lts.Need-by-giver-requires (possible_claims t) (possible_at t) possible.Post
+possible_by_giver_requires t c κs = search rules
 
-possible-returns-5 : (t : ℕ) → possible-lts.Need-returns-5 (possible-claims t) (possible-at t) possible.Post
-possible-returns-5 t c = λ e. no-giver c.before.asked.ensures (c.by-giver.ensures e)
+possible_returns_5 : (t : ℕ) → possible-lts.Need-returns-5 (possible_claims t) (possible_at t) possible.Post
+possible_returns_5 t c = λ e. no_giver c.before.asked.ensures (c.by-giver.ensures e)
 
 pub +by-giver-possible-spec : {M : Type 1} → statement M
-+by-giver-possible-spec = close μ-by-giver μ-possible (λ t. by-giver-lts.spec (giver-claims t)
-    (by-giver-at t)
++by-giver-possible-spec = close μ_by_giver μ_possible (λ t. by-giver-lts.spec (giver_claims t)
+    (by_giver_at t)
     by-giver.Post
-    (by-giver-next-giver-requires t)
-    (by-giver-returns t)
-    (by-giver-add-requires t)
-    (by-giver-mul-grown t)
-    (by-giver-element-copy-out-grown t)
-    (by-giver-admissible-requires t)
-    (by-giver-gathered-requires t)
-    (by-giver-sub-possible t)
-    (by-giver-possible-requires t)
-    (by-giver-returns-2 t)
-    (by-giver-add-requires-2 t)
-    (by-giver-add-by-giver t)
-    (by-giver-by-giver-requires t)
-    (by-giver-returns-3 t))
+    (by_giver_next_giver_requires t)
+    (by_giver_returns t)
+    (by_giver_add_requires t)
+    (by_giver_mul_grown t)
+    (by_giver_element_copy_out_grown t)
+    (by_giver_admissible_requires t)
+    (by_giver_gathered_requires t)
+    (by_giver_sub_possible t)
+    (by_giver_possible_requires t)
+    (by_giver_returns_2 t)
+    (by_giver_add_requires_2 t)
+    (by_giver_add_by_giver t)
+    (by_giver_by_giver_requires t)
+    (by_giver_returns_3 t))
     λ t. possible-lts.spec (
       meets-reads.Asked,
       meets-reads.Learnt,
       asked-reads.Asked,
       asked-reads.Learnt,
-      by-giver-below t,
+      by_giver_below t,
       by-giver.Post,
     )
-    (possible-at t)
+    (possible_at t)
     possible.Post
-    (possible-meets-requires t)
-    (possible-returns t)
-    (possible-returns-2 t)
-    (possible-cast-size t)
-    (possible-returns-3 t)
-    (possible-returns-4 t)
-    (possible-asked-requires t)
-    (possible-by-giver-requires t)
-    (possible-returns-5 t)
+    (possible_meets_requires t)
+    (possible_returns t)
+    (possible_returns_2 t)
+    (possible_cast_size t)
+    (possible_returns_3 t)
+    (possible_returns_4 t)
+    (possible_asked_requires t)
+    (possible_by_giver_requires t)
+    (possible_returns_5 t)

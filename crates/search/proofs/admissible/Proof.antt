@@ -2,46 +2,46 @@
 use Rattle.std.proofs.Common.{arith, rules}
 use lib.Count.{ones-le}
 use borrow.Author.Tests.{not-true}
-use Rattle.search.proofs.Prunes.{too_large, too_many, not-apart, not-together}
+use Rattle.search.proofs.Prunes.{too_large, too_many, not_apart, not_together}
 use Rattle.search.proofs.admissible.Statement.{statement}
 use Rattle.search.proofs.admissible.Tie as tie
 use Rattle.search.proofs.allowed_together.Reads as allowed-together-reads
 use Rattle.search.proofs.apart.Reads as apart-reads
 use Rattle.search.proofs.role_count.Reads as role-count-reads
 
-cast-size : tie.Need-overflow-cast-size
-cast-size c = record { fits = omega (arith, ones-le 32 c.args.s c.ranges.s.fits) }
+cast_size : tie.Need-overflow-cast-size
+cast_size c = record { fits = omega (arith, ones-le 32 c.args.s c.ranges.s.fits) }
 
 returns : tie.Need-returns
 returns c = λ e. too_large c.if1.true
 
-role-count-requires : tie.Need-role-count-requires
-role-count-requires c κs = search rules
+role_count_requires : tie.Need-role-count-requires
+role_count_requires c κs = search rules
 
-returns-2 : tie.Need-returns-2
-returns-2 c = λ e. too_many (omega (arith, c.if2.true, c.before.before.role-count.ensures.0))
+returns_2 : tie.Need-returns-2
+returns_2 c = λ e. too_many (omega (arith, c.if2.true, c.before.before.role_count_lem.ensures.0))
 
-apart-requires : tie.Need-apart-requires
-apart-requires c κs = search rules
+apart_requires : tie.Need-apart-requires
+apart_requires c κs = search rules
 
-returns-3 : tie.Need-returns-3
-returns-3 c = λ e. not-apart (c.before.apart.ensures.no (not-true _ c.if3.true))
+returns_3 : tie.Need-returns-3
+returns_3 c = λ e. not_apart (c.before.apart.ensures.no (not-true _ c.if3.true))
 
-allowed-together-requires : tie.Need-allowed-together-requires
-allowed-together-requires c κs = search rules
+allowed_together_requires : tie.Need-allowed-together-requires
+allowed_together_requires c κs = search rules
 
-returns-4 : tie.Need-returns-4
-returns-4 c = λ e. not-together (c.allowed-together.ensures e)
+returns_4 : tie.Need-returns-4
+returns_4 c = λ e. not_together (c.allowed-together.ensures e)
 
-pub admissible-spec : {M : Type 1} → statement M
-admissible-spec =
+pub admissible_spec : {M : Type 1} → statement M
+admissible_spec =
     tie.close
     (tie.spec
-    cast-size
+    cast_size
     returns
-    role-count-requires
-    returns-2
-    apart-requires
-    returns-3
-    allowed-together-requires
-    returns-4)
+    role_count_requires
+    returns_2
+    apart_requires
+    returns_3
+    allowed_together_requires
+    returns_4)

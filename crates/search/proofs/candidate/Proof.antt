@@ -8,20 +8,20 @@ use Rattle.search.proofs.consistent.Reads as consistent-reads
 use Rattle.search.proofs.met.Reads as met-reads
 use Rattle.search.proofs.within.Reads as within-reads
 
-within-requires : tie.Need-within-requires
-within-requires c κs = search rules
+within_requires : tie.Need-within-requires
+within_requires c κs = search rules
 
 returns : tie.Need-returns
 returns c = refuted (λ d. c.before.within.ensures.no (not-true _ c.if1.true) d.allowed)
 
-met-requires : tie.Need-met-requires
-met-requires c κs = search rules
+met_requires : tie.Need-met-requires
+met_requires c κs = search rules
 
-consistent-requires : tie.Need-consistent-requires
-consistent-requires c κs = search rules
+consistent_requires : tie.Need-consistent-requires
+consistent_requires c κs = search rules
 
-returns-2 : tie.Need-returns-2
-returns-2 c =
+returns_2 : tie.Need-returns-2
+returns_2 c =
     let then2 = c.before in
     let else1 = then2.before.before in
     let start = else1.before.before in
@@ -35,8 +35,8 @@ returns-2 c =
       no = λ t d. c.consistent.ensures.no t d.consistent;
     }
 
-returns-3 : tie.Need-returns-3
-returns-3 c = refuted (λ d. c.before.met.ensures.no c.if2.false d.met)
+returns_3 : tie.Need-returns-3
+returns_3 c = refuted (λ d. c.before.met.ensures.no c.if2.false d.met)
 
-pub candidate-spec : {M : Type 1} → statement M
-candidate-spec = tie.close (tie.spec within-requires returns met-requires consistent-requires returns-2 returns-3)
+pub candidate_spec : {M : Type 1} → statement M
+candidate_spec = tie.close (tie.spec within_requires returns met_requires consistent_requires returns_2 returns_3)

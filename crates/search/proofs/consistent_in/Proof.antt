@@ -4,23 +4,23 @@ use Rattle.search.proofs.Decide.{refuted}
 use Rattle.search.proofs.consistent_in.Statement.{statement}
 use Rattle.search.proofs.consistent_in.Tie as tie
 
-mul-excluded : tie.Need-overflow-mul-excluded
-mul-excluded c = search rules
+mul_excluded : tie.Need-overflow-mul-excluded
+mul_excluded c = search rules
 
-element-copy-out-excluded : tie.Need-element-copy-out-excluded
-element-copy-out-excluded c = search rules
+element_copy_out_excluded : tie.Need-element-copy-out-excluded
+element_copy_out_excluded c = search rules
 
-apart-requires : tie.Need-apart-requires
-apart-requires c κs = search rules
+apart_requires : tie.Need-apart-requires
+apart_requires c κs = search rules
 
-mul-within : tie.Need-overflow-mul-within
-mul-within c = search rules
+mul_within : tie.Need-overflow-mul-within
+mul_within c = search rules
 
-element-copy-out-within : tie.Need-element-copy-out-within
-element-copy-out-within c = search rules
+element_copy_out_within : tie.Need-element-copy-out-within
+element_copy_out_within c = search rules
 
-within-requires : tie.Need-within-requires
-within-requires c κs = search rules
+within_requires : tie.Need-within-requires
+within_requires c κs = search rules
 
 returns : tie.Need-returns
 returns c =
@@ -30,18 +30,18 @@ returns c =
       no = λ t g. c.within.ensures.no t g.whole;
     }
 
-returns-2 : tie.Need-returns-2
-returns-2 c = refuted (λ g. c.before.apart.ensures.no c.if1.false g.apart)
+returns_2 : tie.Need-returns-2
+returns_2 c = refuted (λ g. c.before.apart.ensures.no c.if1.false g.apart)
 
-pub consistent-in-spec : {M : Type 1} → statement M
-consistent-in-spec =
+pub consistent_in_spec : {M : Type 1} → statement M
+consistent_in_spec =
     tie.close
     (tie.spec
-    mul-excluded
-    element-copy-out-excluded
-    apart-requires
-    mul-within
-    element-copy-out-within
-    within-requires
+    mul_excluded
+    element_copy_out_excluded
+    apart_requires
+    mul_within
+    element_copy_out_within
+    within_requires
     returns
-    returns-2)
+    returns_2)

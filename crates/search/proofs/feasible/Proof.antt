@@ -7,21 +7,21 @@ use Rattle.search.proofs.admissible.Reads as admissible-reads
 use Rattle.search.proofs.granted_by.Reads as granted-by-reads
 use Rattle.search.proofs.possible.Reads as possible-reads
 
-admissible-requires : tie.Need-admissible-requires
-admissible-requires c κs = search rules
+admissible_requires : tie.Need-admissible-requires
+admissible_requires c κs = search rules
 
 returns : tie.Need-returns
 returns c = λ e. c.before.admissible.ensures (not-true _ c.if1.true)
 
-granted-by-requires : tie.Need-granted-by-requires
-granted-by-requires c κs = search rules
+granted_by_requires : tie.Need-granted-by-requires
+granted_by_requires c κs = search rules
 
-possible-requires : tie.Need-possible-requires
-possible-requires c κs = search rules
+possible_requires : tie.Need-possible-requires
+possible_requires c κs = search rules
 
-returns-2 : tie.Need-returns-2
-returns-2 c = search rules
+returns_2 : tie.Need-returns-2
+returns_2 c = search rules
 
-pub feasible-spec : {M : Type 1} → statement M
-feasible-spec =
-    tie.close (tie.spec admissible-requires returns granted-by-requires possible-requires returns-2)
+pub feasible_spec : {M : Type 1} → statement M
+feasible_spec =
+    tie.close (tie.spec admissible_requires returns granted_by_requires possible_requires returns_2)

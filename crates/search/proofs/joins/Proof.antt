@@ -7,29 +7,29 @@ use Rattle.search.proofs.apart.Reads as apart-reads
 use Rattle.search.proofs.has.Reads as has-reads
 use Rattle.search.proofs.within_from.Reads as within-from-reads
 
-has-requires : tie.Need-has-requires
-has-requires c κs = search rules
+has_requires : tie.Need-has-requires
+has_requires c κs = search rules
 
-mul-apart : tie.Need-overflow-mul-apart
-mul-apart c = search rules
+mul_apart : tie.Need-overflow-mul-apart
+mul_apart c = search rules
 
-element-copy-out-apart : tie.Need-element-copy-out-apart
-element-copy-out-apart c = search rules
+element_copy_out_apart : tie.Need-element-copy-out-apart
+element_copy_out_apart c = search rules
 
-apart-requires : tie.Need-apart-requires
-apart-requires c κs = search rules
+apart_requires : tie.Need-apart-requires
+apart_requires c κs = search rules
 
-mul-within-from : tie.Need-overflow-mul-within-from
-mul-within-from c = search rules
+mul_within_from : tie.Need-overflow-mul-within-from
+mul_within_from c = search rules
 
-element-copy-out-within-from : tie.Need-element-copy-out-within-from
-element-copy-out-within-from c = search rules
+element_copy_out_within_from : tie.Need-element-copy-out-within-from
+element_copy_out_within_from c = search rules
 
-add-within-from : tie.Need-overflow-add-within-from
-add-within-from c = search rules
+add_within_from : tie.Need-overflow-add-within-from
+add_within_from c = search rules
 
-within-from-requires : tie.Need-within-from-requires
-within-from-requires c κs = search rules
+within_from_requires : tie.Need-within-from-requires
+within_from_requires c κs = search rules
 
 returns : tie.Need-returns
 returns c =
@@ -44,24 +44,24 @@ returns c =
       no = λ t g. c.within-from.ensures.no t g.whole;
     }
 
-returns-2 : tie.Need-returns-2
-returns-2 c = refuted (λ g. c.before.apart.ensures.no c.if2.false g.apart)
+returns_2 : tie.Need-returns-2
+returns_2 c = refuted (λ g. c.before.apart.ensures.no c.if2.false g.apart)
 
-returns-3 : tie.Need-returns-3
-returns-3 c = refuted (λ g. c.before.has.ensures.no c.if1.false g.allowed)
+returns_3 : tie.Need-returns-3
+returns_3 c = refuted (λ g. c.before.has.ensures.no c.if1.false g.allowed)
 
-pub joins-spec : {M : Type 1} → statement M
-joins-spec =
+pub joins_spec : {M : Type 1} → statement M
+joins_spec =
     tie.close
     (tie.spec
-    has-requires
-    mul-apart
-    element-copy-out-apart
-    apart-requires
-    mul-within-from
-    element-copy-out-within-from
-    add-within-from
-    within-from-requires
+    has_requires
+    mul_apart
+    element_copy_out_apart
+    apart_requires
+    mul_within_from
+    element_copy_out_within_from
+    add_within_from
+    within_from_requires
     returns
-    returns-2
-    returns-3)
+    returns_2
+    returns_3)

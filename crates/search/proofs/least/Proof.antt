@@ -4,75 +4,75 @@ use borrow.Author.Tests.{not-true}
 use lib.Count.{ones}
 use Rattle.search.specs.Search.{Candidate}
 use Rattle.search.specs.Answers.GrantedOrDenied.{grants, denies}
-use Rattle.search.specs.AnswerLaws.{found-set, found_nothing}
-use Rattle.search.proofs.Steps.{least-found, higher, past}
-use Rattle.search.proofs.Prunes.{no-candidate}
+use Rattle.search.specs.AnswerLaws.{found_set, found_nothing}
+use Rattle.search.proofs.Steps.{least_found, higher, past}
+use Rattle.search.proofs.Prunes.{no_candidate}
 use Rattle.search.proofs.least.Statement.{statement}
 use Rattle.search.proofs.least.Tie as tie
 use Rattle.search.proofs.feasible.Reads as feasible-reads
 use Rattle.search.proofs.of_size.Reads as of-size-reads
 
-abbrev invariant-loop : tie.invariant-loop
-invariant-loop masks count k₀ k = ((t : ℕ) → Candidate masks t → k ≤ ones t) × (k ≤ count + 1)
+abbrev invariant_loop : tie.invariant_loop
+invariant_loop masks count k₀ k = ((t : ℕ) → Candidate masks t → k ≤ ones t) × (k ≤ count + 1)
 
-abbrev decreases-loop : tie.decreases-loop
-decreases-loop masks count k₀ k = count + 1 - k
+abbrev decreases_loop : tie.decreases_loop
+decreases_loop masks count k₀ k = count + 1 - k
 
-feasible-requires : tie.Need-feasible-requires invariant-loop decreases-loop
-feasible-requires c κs = c.requires
+feasible_requires : tie.Need-feasible-requires invariant_loop decreases_loop
+feasible_requires c κs = c.requires
 
-returns : tie.Need-returns invariant-loop decreases-loop
+returns : tie.Need-returns invariant_loop decreases_loop
 returns c =
     denies refl
-    (no-candidate (c.before.feasible.ensures (not-true _ c.if1.true)) (omega (arith, c.before.before.requires)) (omega arith))
+    (no_candidate (c.before.feasible.ensures (not-true _ c.if1.true)) (omega (arith, c.before.before.requires)) (omega arith))
 
-loop-holds : tie.Need-loop-init invariant-loop decreases-loop
-loop-holds c = (λ t d. zero-le, omega arith)
+loop_holds : tie.Need-loop-init invariant_loop decreases_loop
+loop_holds c = (λ t d. zero-le, omega arith)
 
-of-size-requires : tie.Need-of-size-requires invariant-loop decreases-loop
-of-size-requires c κs =
+of_size_requires : tie.Need-of-size-requires invariant_loop decreases_loop
+of_size_requires c κs =
     let s = c.before.before.before.before in
     (s.requires, omega (arith, s.requires, c.loop-test.true))
 
-enum-known-found : tie.Need-enum-known-found invariant-loop decreases-loop
-enum-known-found c = search rules
+enum_known_found : tie.Need-enum-known-found invariant_loop decreases_loop
+enum_known_found c = search rules
 
-returns-2 : tie.Need-returns-2 invariant-loop decreases-loop
-returns-2 c =
+returns_2 : tie.Need-returns-2 invariant_loop decreases_loop
+returns_2 c =
     let called = c.before.before.before in
-    grants _ refl (least-found called.before.before.loop.invariant.0 (found-set called.of_size.ensures c.before.found.given.1))
+    grants _ refl (least_found called.before.before.loop.invariant.0 (found_set called.of_size.ensures c.before.found.given.1))
 
-enum_told : tie.Need-enum-told invariant-loop decreases-loop
+enum_told : tie.Need-enum-told invariant_loop decreases_loop
 enum_told c = search rules
 
-add-k : tie.Need-overflow-add-k invariant-loop decreases-loop
-add-k c = omega arith
+add_k : tie.Need-overflow-add-k invariant_loop decreases_loop
+add_k c = omega arith
 
-loop-less : tie.Need-loop-smaller invariant-loop decreases-loop
-loop-less c = omega arith
+loop_less : tie.Need-loop-smaller invariant_loop decreases_loop
+loop_less c = omega arith
 
-loop-again : tie.Need-loop-preserved invariant-loop decreases-loop
-loop-again c =
+loop_again : tie.Need-loop-preserved invariant_loop decreases_loop
+loop_again c =
     let called = c.before.before in
     (higher called.before.before.loop.invariant.0 (found_nothing called.of_size.ensures c.enum_told.given.1), omega arith)
 
-returns-3 : tie.Need-returns-3 invariant-loop decreases-loop
-returns-3 c = denies refl (past c.before.loop.invariant.0 (omega arith))
+returns_3 : tie.Need-returns-3 invariant_loop decreases_loop
+returns_3 c = denies refl (past c.before.loop.invariant.0 (omega arith))
 
-pub least-spec : {M : Type 1} → statement M
-least-spec =
+pub least_spec : {M : Type 1} → statement M
+least_spec =
     tie.close
     (tie.spec
-    invariant-loop
-    decreases-loop
-    feasible-requires
+    invariant_loop
+    decreases_loop
+    feasible_requires
     returns
-    loop-holds
-    of-size-requires
-    enum-known-found
-    returns-2
+    loop_holds
+    of_size_requires
+    enum_known_found
+    returns_2
     enum_told
-    add-k
-    loop-less
-    loop-again
-    returns-3)
+    add_k
+    loop_less
+    loop_again
+    returns_3)

@@ -6,35 +6,35 @@ use Rattle.search.proofs.next_giver.Statement.{statement}
 use Rattle.search.proofs.next_giver.Tie as tie
 use Rattle.search.proofs.meets.Reads as meets-reads
 
-abbrev invariant-loop : tie.invariant-loop
-invariant-loop count x p grants g₀ g = ((q : ℕ) → p ≤ q → q < g → MetBy false x (at grants q) → ⊥) × (p ≤ g)
+abbrev invariant_loop : tie.invariant_loop
+invariant_loop count x p grants g₀ g = ((q : ℕ) → p ≤ q → q < g → MetBy false x (at grants q) → ⊥) × (p ≤ g)
 
-abbrev decreases-loop : tie.decreases-loop
-decreases-loop count x p grants g₀ g = count - g
+abbrev decreases_loop : tie.decreases_loop
+decreases_loop count x p grants g₀ g = count - g
 
-loop-holds : tie.Need-loop-init invariant-loop decreases-loop
-loop-holds c = (λ q l k. absurd (omega arith), omega arith)
+loop_holds : tie.Need-loop-init invariant_loop decreases_loop
+loop_holds c = (λ q l k. absurd (omega arith), omega arith)
 
-mul-meets : tie.Need-overflow-mul-meets invariant-loop decreases-loop
-mul-meets c = search rules
+mul_meets : tie.Need-overflow-mul-meets invariant_loop decreases_loop
+mul_meets c = search rules
 
-array-read-meets : tie.Need-array-read-meets invariant-loop decreases-loop
-array-read-meets c = search rules
+array_read_meets : tie.Need-array-read-meets invariant_loop decreases_loop
+array_read_meets c = search rules
 
-meets-requires : tie.Need-meets-requires invariant-loop decreases-loop
-meets-requires c κs = search rules
+meets_requires : tie.Need-meets-requires invariant_loop decreases_loop
+meets_requires c κs = search rules
 
-returns : tie.Need-returns invariant-loop decreases-loop
+returns : tie.Need-returns invariant_loop decreases_loop
 returns c = let i = c.before.before.before.loop.invariant in (i.1, i.0)
 
-add-g : tie.Need-overflow-add-g invariant-loop decreases-loop
-add-g c = search rules
+add_g : tie.Need-overflow-add-g invariant_loop decreases_loop
+add_g c = search rules
 
-loop-less : tie.Need-loop-smaller invariant-loop decreases-loop
-loop-less c = search rules
+loop_less : tie.Need-loop-smaller invariant_loop decreases_loop
+loop_less c = search rules
 
-loop-again : tie.Need-loop-preserved invariant-loop decreases-loop
-loop-again c =
+loop_again : tie.Need-loop-preserved invariant_loop decreases_loop
+loop_again c =
     let met = c.before in
     let a = met.before.before in
     let args = a.before.args in
@@ -46,21 +46,21 @@ loop-again c =
       omega arith,
     )
 
-returns-2 : tie.Need-returns-2 invariant-loop decreases-loop
-returns-2 c = let i = c.before.loop.invariant in (i.1, i.0)
+returns_2 : tie.Need-returns-2 invariant_loop decreases_loop
+returns_2 c = let i = c.before.loop.invariant in (i.1, i.0)
 
-pub next-giver-spec : {M : Type 1} → statement M
-next-giver-spec =
+pub next_giver_spec : {M : Type 1} → statement M
+next_giver_spec =
     tie.close
     (tie.spec
-    invariant-loop
-    decreases-loop
-    loop-holds
-    mul-meets
-    array-read-meets
-    meets-requires
+    invariant_loop
+    decreases_loop
+    loop_holds
+    mul_meets
+    array_read_meets
+    meets_requires
     returns
-    add-g
-    loop-less
-    loop-again
-    returns-2)
+    add_g
+    loop_less
+    loop_again
+    returns_2)

@@ -2,12 +2,12 @@
 use Rattle.std.proofs.Common.{◌≡◌, ℕ, ◌+◌, ◌-◌, ◌≤◌, refl, arith, rules}
 use borrow.Author.Tests.{not-true}
 use lib.Count.{ones}
-use Rattle.common.specs.SetLaws.{none-in-zero}
-use Rattle.search.specs.Search.{Candidate, roleCountIn}
+use Rattle.common.specs.SetLaws.{none_in_zero}
+use Rattle.search.specs.Search.{Candidate, role_count_in}
 use Rattle.search.specs.Answers.GrantedOrDenied.{grants, denies}
-use Rattle.search.specs.AnswerLaws.{found-set, found_nothing}
-use Rattle.search.proofs.Steps.{start, first-of-size, more-roles, past-roles}
-use Rattle.search.proofs.Prunes.{none-of-size}
+use Rattle.search.specs.AnswerLaws.{found_set, found_nothing}
+use Rattle.search.proofs.Steps.{start, first_of_size, more_roles, past_roles}
+use Rattle.search.proofs.Prunes.{none_of_size}
 use Rattle.search.proofs.of_size.Statement.{statement}
 use Rattle.search.proofs.of_size.Tie as tie
 use Rattle.search.proofs.feasible.Reads as feasible-reads
@@ -15,72 +15,72 @@ use Rattle.search.proofs.fewest_roles.Reads as fewest-roles-reads
 use Rattle.search.proofs.most_roles.Reads as most-roles-reads
 use Rattle.search.proofs.search.Reads as search-reads
 
-abbrev invariant-loop : tie.invariant-loop
-invariant-loop masks k fewest most count j₀ j = (t : ℕ) → Candidate masks t → ones t ≡ k → j ≤ roleCountIn masks t
+abbrev invariant_loop : tie.invariant_loop
+invariant_loop masks k fewest most count j₀ j = (t : ℕ) → Candidate masks t → ones t ≡ k → j ≤ role_count_in masks t
 
-abbrev decreases-loop : tie.decreases-loop
-decreases-loop masks k fewest most count j₀ j = most + 1 - j
+abbrev decreases_loop : tie.decreases_loop
+decreases_loop masks k fewest most count j₀ j = most + 1 - j
 
-fewest-roles-requires : tie.Need-fewest-roles-requires invariant-loop decreases-loop
-fewest-roles-requires c κs = search rules
+fewest_roles_requires : tie.Need-fewest-roles-requires invariant_loop decreases_loop
+fewest_roles_requires c κs = search rules
 
-most-roles-requires : tie.Need-most-roles-requires invariant-loop decreases-loop
-most-roles-requires c κs = search rules
+most_roles_requires : tie.Need-most-roles-requires invariant_loop decreases_loop
+most_roles_requires c κs = search rules
 
-feasible-requires : tie.Need-feasible-requires invariant-loop decreases-loop
-feasible-requires c κs = c.before.before.before.requires.0
+feasible_requires : tie.Need-feasible-requires invariant_loop decreases_loop
+feasible_requires c κs = c.before.before.before.requires.0
 
-returns : tie.Need-returns invariant-loop decreases-loop
-returns c = denies refl (none-of-size (c.before.feasible.ensures (not-true _ c.if2.true)) (omega arith) (omega arith))
+returns : tie.Need-returns invariant_loop decreases_loop
+returns c = denies refl (none_of_size (c.before.feasible.ensures (not-true _ c.if2.true)) (omega arith) (omega arith))
 
-loop-holds : tie.Need-loop-init invariant-loop decreases-loop
-loop-holds c = λ t d o. c.before.before.fewest-roles.ensures t d.allowed o
+loop_holds : tie.Need-loop-init invariant_loop decreases_loop
+loop_holds c = λ t d o. c.before.before.fewest-roles.ensures t d.allowed o
 
-search-requires : tie.Need-search-requires invariant-loop decreases-loop
-search-requires c κs =
-    (start _ c.before.before.before.before.before.requires.0, record { by = λ t d f q i. absurd (none-in-zero q i) })
+search_requires : tie.Need-search-requires invariant_loop decreases_loop
+search_requires c κs =
+    (start _ c.before.before.before.before.before.requires.0, record { by = λ t d f q i. absurd (none_in_zero q i) })
 
-enum-known-found : tie.Need-enum-known-found invariant-loop decreases-loop
-enum-known-found c = search rules
+enum_known_found : tie.Need-enum-known-found invariant_loop decreases_loop
+enum_known_found c = search rules
 
-returns-2 : tie.Need-returns-2 invariant-loop decreases-loop
-returns-2 c =
+returns_2 : tie.Need-returns-2 invariant_loop decreases_loop
+returns_2 c =
     let called = c.before.before.before in
-    grants _ refl (first-of-size called.before.before.loop.invariant (found-set called.search.ensures c.before.found.given.1))
+    grants _ refl (first_of_size called.before.before.loop.invariant (found_set called.search.ensures c.before.found.given.1))
 
-enum_told : tie.Need-enum-told invariant-loop decreases-loop
+enum_told : tie.Need-enum-told invariant_loop decreases_loop
 enum_told c = search rules
 
-add-j : tie.Need-overflow-add-j invariant-loop decreases-loop
-add-j c = omega arith
+add_j : tie.Need-overflow-add-j invariant_loop decreases_loop
+add_j c = omega arith
 
-loop-less : tie.Need-loop-smaller invariant-loop decreases-loop
-loop-less c = omega arith
+loop_less : tie.Need-loop-smaller invariant_loop decreases_loop
+loop_less c = omega arith
 
-loop-again : tie.Need-loop-preserved invariant-loop decreases-loop
-loop-again c =
+loop_again : tie.Need-loop-preserved invariant_loop decreases_loop
+loop_again c =
     let called = c.before.before in
-    more-roles called.before.before.loop.invariant (found_nothing called.search.ensures c.enum_told.given.1)
+    more_roles called.before.before.loop.invariant (found_nothing called.search.ensures c.enum_told.given.1)
 
-returns-3 : tie.Need-returns-3 invariant-loop decreases-loop
-returns-3 c = denies refl (past-roles c.before.loop.invariant c.before.before.before.most-roles.ensures.0 (omega arith))
+returns_3 : tie.Need-returns-3 invariant_loop decreases_loop
+returns_3 c = denies refl (past_roles c.before.loop.invariant c.before.before.before.most-roles.ensures.0 (omega arith))
 
-pub of-size-spec : {M : Type 1} → statement M
-of-size-spec =
+pub of_size_spec : {M : Type 1} → statement M
+of_size_spec =
     tie.close
     (tie.spec
-    invariant-loop
-    decreases-loop
-    fewest-roles-requires
-    most-roles-requires
-    feasible-requires
+    invariant_loop
+    decreases_loop
+    fewest_roles_requires
+    most_roles_requires
+    feasible_requires
     returns
-    loop-holds
-    search-requires
-    enum-known-found
-    returns-2
+    loop_holds
+    search_requires
+    enum_known_found
+    returns_2
     enum_told
-    add-j
-    loop-less
-    loop-again
-    returns-3)
+    add_j
+    loop_less
+    loop_again
+    returns_3)

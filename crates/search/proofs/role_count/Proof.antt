@@ -8,11 +8,11 @@ use Rattle.search.proofs.role_count.Tie as tie
 few : (s : tie.Start) → ones (bit_and s.args.s s.args.role-principals) ≤ 32
 few s = ones-le 32 _ (lt_of_le_of_lt (and_le_l s.args.s s.args.role-principals) s.ranges.s.fits)
 
-cast-result : tie.Need-overflow-cast-result
-cast-result c = record { fits = omega (arith, few c) }
+cast_result : tie.Need-overflow-cast-result
+cast_result c = record { fits = omega (arith, few c) }
 
 returns : tie.Need-returns
 returns c = (refl, few c)
 
-pub role-count-spec : {M : Type 1} → statement M
-role-count-spec = tie.close (tie.spec cast-result returns)
+pub role_count_spec : {M : Type 1} → statement M
+role_count_spec = tie.close (tie.spec cast_result returns)

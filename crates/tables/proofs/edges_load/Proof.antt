@@ -2,91 +2,91 @@
 use Prim.Native.Nat.{◌-◌, ◌≤◌}
 use lib.Dec.{leb}
 use native.Mathlib.Omega.{arith}
-use Rattle.common.specs.Limits.{mostEdges}
-use Rattle.tables.specs.Loads.{edgeFits, edgeKeys, edgesLoad}
-use Rattle.tables.proofs.Zero.{zeros-three}
-use Rattle.tables.proofs.Lines.{Rising, rising_none, rising-more, lines-over, lines-all}
+use Rattle.common.specs.Limits.{most_edges}
+use Rattle.tables.specs.Loads.{edge_fits, edge_keys, edges_load}
+use Rattle.tables.proofs.Zero.{zeros_three}
+use Rattle.tables.proofs.Lines.{Rising, rising_none, rising_more, lines_over, lines_all}
 use borrow.Author.Rules.{rules}
 use Rattle.tables.proofs.edges_load.Statement.{statement}
 use Rattle.tables.proofs.edges_load.Tie as tie
 
-abbrev invariant-loop : tie.invariant-loop
-invariant-loop objects count labels sources targets fit₀ minimum₀ i₀ fit minimum i =
-    Rising (leb mostEdges) (edgeFits objects labels sources targets) (edgeKeys labels sources targets) fit minimum i × (i ≤ count)
+abbrev invariant_loop : tie.invariant_loop
+invariant_loop objects count labels sources targets fit₀ minimum₀ i₀ fit minimum i =
+    Rising (leb most_edges) (edge_fits objects labels sources targets) (edge_keys labels sources targets) fit minimum i × (i ≤ count)
 
-abbrev decreases-loop : tie.decreases-loop
-decreases-loop objects count labels sources targets fit₀ minimum₀ i₀ fit minimum i = count - i
+abbrev decreases_loop : tie.decreases_loop
+decreases_loop objects count labels sources targets fit₀ minimum₀ i₀ fit minimum i = count - i
 
-returns : tie.Need-returns invariant-loop decreases-loop
-unfolding edgesLoad
-returns c = lines-over _ _ _ c.if1.true
+returns : tie.Need-returns invariant_loop decreases_loop
+unfolding edges_load
+returns c = lines_over _ _ _ c.if1.true
 
-loop-holds : tie.Need-loop-init invariant-loop decreases-loop
-loop-holds c = (rising_none, omega arith)
+loop_holds : tie.Need-loop-init invariant_loop decreases_loop
+loop_holds c = (rising_none, omega arith)
 
-element-copy-out-label : tie.Need-element-copy-out-label invariant-loop decreases-loop
-element-copy-out-label c = search rules
+element_copy_out_label : tie.Need-element-copy-out-label invariant_loop decreases_loop
+element_copy_out_label c = search rules
 
-element-copy-out-source : tie.Need-element-copy-out-source invariant-loop decreases-loop
-element-copy-out-source c = search rules
+element_copy_out_source : tie.Need-element-copy-out-source invariant_loop decreases_loop
+element_copy_out_source c = search rules
 
-element-copy-out-target : tie.Need-element-copy-out-target invariant-loop decreases-loop
-element-copy-out-target c = search rules
+element_copy_out_target : tie.Need-element-copy-out-target invariant_loop decreases_loop
+element_copy_out_target c = search rules
 
-edge-refusal-requires : tie.Need-edge-refusal-requires invariant-loop decreases-loop
-edge-refusal-requires c κs = search rules
+edge_refusal_requires : tie.Need-edge-refusal-requires invariant_loop decreases_loop
+edge_refusal_requires c κs = search rules
 
-after-edge-requires : tie.Need-after-edge-requires invariant-loop decreases-loop
-after-edge-requires c κs = search rules
+after_edge_requires : tie.Need-after-edge-requires invariant_loop decreases_loop
+after_edge_requires c κs = search rules
 
-add-i : tie.Need-overflow-add-i invariant-loop decreases-loop
-add-i c = search rules
+add_i : tie.Need-overflow-add-i invariant_loop decreases_loop
+add_i c = search rules
 
-loop-less : tie.Need-loop-smaller invariant-loop decreases-loop
-loop-less c = search rules
+loop_less : tie.Need-loop-smaller invariant_loop decreases_loop
+loop_less c = search rules
 
 -- the loop's test, from the last of a turn's calls
-abbrev at-loop : tie.After-after-edge invariant-loop decreases-loop → tie.At-loop invariant-loop decreases-loop
-at-loop c = c.before.before.before.before.before.before
+abbrev at_loop : tie.After-after-edge invariant_loop decreases_loop → tie.At-loop invariant_loop decreases_loop
+at_loop c = c.before.before.before.before.before.before
 
-loop-again : tie.Need-loop-preserved invariant-loop decreases-loop
-loop-again c = (rising-more (at-loop c).loop.invariant.0 c.before.edge-refusal.ensures c.after-edge.ensures, omega arith)
+loop_again : tie.Need-loop-preserved invariant_loop decreases_loop
+loop_again c = (rising_more (at_loop c).loop.invariant.0 c.before.edge-refusal.ensures c.after_edge_lem.ensures, omega arith)
 
-zero-from-requires : tie.Need-zero-from-requires invariant-loop decreases-loop
-zero-from-requires c κs = search rules
+zero_from_requires : tie.Need-zero-from-requires invariant_loop decreases_loop
+zero_from_requires c κs = search rules
 
-zero-from-requires-2 : tie.Need-zero-from-requires-2 invariant-loop decreases-loop
-zero-from-requires-2 c κs = search rules
+zero_from_requires_2 : tie.Need-zero-from-requires-2 invariant_loop decreases_loop
+zero_from_requires_2 c κs = search rules
 
-zero-from-requires-3 : tie.Need-zero-from-requires-3 invariant-loop decreases-loop
-zero-from-requires-3 c κs = search rules
+zero_from_requires_3 : tie.Need-zero-from-requires-3 invariant_loop decreases_loop
+zero_from_requires_3 c κs = search rules
 
-returns-2 : tie.Need-returns-2 invariant-loop decreases-loop
-unfolding edgesLoad
-returns-2 c =
+returns_2 : tie.Need-returns-2 invariant_loop decreases_loop
+unfolding edges_load
+returns_2 c =
     let h = c.before.before.before.before.before.before.before in
     let a = h.before.before.args in
-    lines-all _ _ _ h.before.if1.false h.loop.invariant.0.accepted (omega arith)
-    (zeros-three a.count a.labels.now a.sources.now a.targets.now c.before.before.before.before.zero-from.ensures c.before.before.zero-from2.ensures
+    lines_all _ _ _ h.before.if1.false h.loop.invariant.0.accepted (omega arith)
+    (zeros_three a.count a.labels.now a.sources.now a.targets.now c.before.before.before.before.zero-from.ensures c.before.before.zero-from2.ensures
     c.zero-from3.ensures)
 
-pub edges-load-spec : {M : Type 1} → statement M
-edges-load-spec =
+pub edges_load_spec : {M : Type 1} → statement M
+edges_load_spec =
     tie.close
     (tie.spec
-    invariant-loop
-    decreases-loop
+    invariant_loop
+    decreases_loop
     returns
-    loop-holds
-    element-copy-out-label
-    element-copy-out-source
-    element-copy-out-target
-    edge-refusal-requires
-    after-edge-requires
-    add-i
-    loop-less
-    loop-again
-    zero-from-requires
-    zero-from-requires-2
-    zero-from-requires-3
-    returns-2)
+    loop_holds
+    element_copy_out_label
+    element_copy_out_source
+    element_copy_out_target
+    edge_refusal_requires
+    after_edge_requires
+    add_i
+    loop_less
+    loop_again
+    zero_from_requires
+    zero_from_requires_2
+    zero_from_requires_3
+    returns_2)

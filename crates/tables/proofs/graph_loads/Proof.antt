@@ -4,18 +4,18 @@ use borrow.Author.Rules.{rules}
 use Rattle.tables.proofs.graph_loads.Statement.{statement}
 use Rattle.tables.proofs.graph_loads.Tie as tie
 
-users-load-requires : tie.Need-users-load-requires
-users-load-requires c κs = search rules
+users_load_requires : tie.Need-users-load-requires
+users_load_requires c κs = search rules
 
-edges-load-requires : tie.Need-edges-load-requires
-edges-load-requires c κs = search rules
+edges_load_requires : tie.Need-edges-load-requires
+edges_load_requires c κs = search rules
 
-formulas-load-requires : tie.Need-formulas-load-requires
-formulas-load-requires c κs = search rules
+formulas_load_requires : tie.Need-formulas-load-requires
+formulas_load_requires c κs = search rules
 
 returns : tie.Need-returns
 returns c =
-    λ i. c.before.before.users-load.ensures i && (c.before.edges-load.ensures i && c.formulas-load.ensures i)
+    λ i. c.before.before.users-load.ensures i && (c.before.edges_load_lem.ensures i && c.formulas-load.ensures i)
 
-pub graph-loads-spec : {M : Type 1} → statement M
-graph-loads-spec = tie.close (tie.spec users-load-requires edges-load-requires formulas-load-requires returns)
+pub graph_loads_spec : {M : Type 1} → statement M
+graph_loads_spec = tie.close (tie.spec users_load_requires edges_load_requires formulas_load_requires returns)

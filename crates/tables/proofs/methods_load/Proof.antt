@@ -1,71 +1,71 @@
 -- `methods_load` meets its contract.
 use Prim.Native.Nat.{◌-◌, ◌≤◌}
 use lib.Dec.{leb}
-use Rattle.common.specs.Limits.{mostMethods}
+use Rattle.common.specs.Limits.{most_methods}
 use Rattle.common.specs.Lists.{at}
 use native.Mathlib.Omega.{arith}
-use Rattle.tables.specs.Loads.{plainRefusal, methodsLoad}
-use Rattle.tables.proofs.Zero.{zeros-two}
-use Rattle.tables.proofs.Lines.{Accepted, accepted-none, accepted-more, lines-over, lines-all}
+use Rattle.tables.specs.Loads.{plain_refusal, methods_load}
+use Rattle.tables.proofs.Zero.{zeros_two}
+use Rattle.tables.proofs.Lines.{Accepted, accepted_none, accepted_more, lines_over, lines_all}
 use borrow.Author.Rules.{rules}
 use Rattle.tables.proofs.methods_load.Statement.{statement}
 use Rattle.tables.proofs.methods_load.Tie as tie
 
-abbrev invariant-loop : tie.invariant-loop
-invariant-loop count forms privileges fit₀ i₀ fit i = Accepted (plainRefusal mostMethods (λ x. leb (at forms x) 1)) fit i × (i ≤ count)
+abbrev invariant_loop : tie.invariant_loop
+invariant_loop count forms privileges fit₀ i₀ fit i = Accepted (plain_refusal most_methods (λ x. leb (at forms x) 1)) fit i × (i ≤ count)
 
-abbrev decreases-loop : tie.decreases-loop
-decreases-loop count forms privileges fit₀ i₀ fit i = count - i
+abbrev decreases_loop : tie.decreases_loop
+decreases_loop count forms privileges fit₀ i₀ fit i = count - i
 
-returns : tie.Need-returns invariant-loop decreases-loop
-unfolding methodsLoad
-returns c = lines-over _ _ _ c.if1.true
+returns : tie.Need-returns invariant_loop decreases_loop
+unfolding methods_load
+returns c = lines_over _ _ _ c.if1.true
 
-loop-holds : tie.Need-loop-init invariant-loop decreases-loop
-loop-holds c = (accepted-none, omega arith)
+loop_holds : tie.Need-loop-init invariant_loop decreases_loop
+loop_holds c = (accepted_none, omega arith)
 
-element-copy-out-method-refusal : tie.Need-element-copy-out-method-refusal invariant-loop decreases-loop
-element-copy-out-method-refusal c = search rules
+element_copy_out_method_refusal : tie.Need-element-copy-out-method-refusal invariant_loop decreases_loop
+element_copy_out_method_refusal c = search rules
 
-method-refusal-requires : tie.Need-method-refusal-requires invariant-loop decreases-loop
-method-refusal-requires c κs = search rules
+method_refusal_requires : tie.Need-method-refusal-requires invariant_loop decreases_loop
+method_refusal_requires c κs = search rules
 
-add-i : tie.Need-overflow-add-i invariant-loop decreases-loop
-add-i c = search rules
+add_i : tie.Need-overflow-add-i invariant_loop decreases_loop
+add_i c = search rules
 
-loop-less : tie.Need-loop-smaller invariant-loop decreases-loop
-loop-less c = search rules
+loop_less : tie.Need-loop-smaller invariant_loop decreases_loop
+loop_less c = search rules
 
-loop-again : tie.Need-loop-preserved invariant-loop decreases-loop
-loop-again c = (accepted-more c.before.before.before.loop.invariant.0 c.method-refusal.ensures, omega arith)
+loop_again : tie.Need-loop-preserved invariant_loop decreases_loop
+loop_again c = (accepted_more c.before.before.before.loop.invariant.0 c.method-refusal.ensures, omega arith)
 
-zero-from-requires : tie.Need-zero-from-requires invariant-loop decreases-loop
-zero-from-requires c κs = search rules
+zero_from_requires : tie.Need-zero-from-requires invariant_loop decreases_loop
+zero_from_requires c κs = search rules
 
-zero-from-u64-requires : tie.Need-zero-from-u64-requires invariant-loop decreases-loop
-zero-from-u64-requires c κs = search rules
+zero_from_u64_requires : tie.Need-zero-from-u64-requires invariant_loop decreases_loop
+zero_from_u64_requires c κs = search rules
 
-returns-2 : tie.Need-returns-2 invariant-loop decreases-loop
-unfolding methodsLoad
-returns-2 c =
+returns_2 : tie.Need-returns-2 invariant_loop decreases_loop
+unfolding methods_load
+returns_2 c =
     let h = c.before.before.before.before.before in
     let a = h.before.before.args in
-    lines-all _ _ _ h.before.if1.false h.loop.invariant.0 (omega arith)
-    (zeros-two a.count a.forms.now a.privileges.now c.before.before.zero-from.ensures c.zero-from-u64.ensures)
+    lines_all _ _ _ h.before.if1.false h.loop.invariant.0 (omega arith)
+    (zeros_two a.count a.forms.now a.privileges.now c.before.before.zero-from.ensures c.zero-from-u64.ensures)
 
-pub methods-load-spec : {M : Type 1} → statement M
-methods-load-spec =
+pub methods_load_spec : {M : Type 1} → statement M
+methods_load_spec =
     tie.close
     (tie.spec
-    invariant-loop
-    decreases-loop
+    invariant_loop
+    decreases_loop
     returns
-    loop-holds
-    element-copy-out-method-refusal
-    method-refusal-requires
-    add-i
-    loop-less
-    loop-again
-    zero-from-requires
-    zero-from-u64-requires
-    returns-2)
+    loop_holds
+    element_copy_out_method_refusal
+    method_refusal_requires
+    add_i
+    loop_less
+    loop_again
+    zero_from_requires
+    zero_from_u64_requires
+    returns_2)

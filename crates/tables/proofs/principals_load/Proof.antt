@@ -1,75 +1,75 @@
 -- `principals_load` meets its contract.
 use Prim.Native.Nat.{◌-◌, ◌≤◌}
-use Rattle.common.specs.Limits.{mostPrincipals}
+use Rattle.common.specs.Limits.{most_principals}
 use native.Mathlib.Omega.{arith}
-use Rattle.tables.specs.Loads.{plainRefusal, principalFits, principalsLoad}
-use Rattle.tables.proofs.Zero.{zeros-two}
-use Rattle.tables.proofs.Lines.{Accepted, accepted-none, accepted-more, lines-over, lines-all}
+use Rattle.tables.specs.Loads.{plain_refusal, principal_fits, principals_load}
+use Rattle.tables.proofs.Zero.{zeros_two}
+use Rattle.tables.proofs.Lines.{Accepted, accepted_none, accepted_more, lines_over, lines_all}
 use borrow.Author.Rules.{rules}
 use Rattle.tables.proofs.principals_load.Statement.{statement}
 use Rattle.tables.proofs.principals_load.Tie as tie
 
-abbrev invariant-loop : tie.invariant-loop
-invariant-loop formulas demarcations count grounds ranks fit₀ i₀ fit i =
-    Accepted (plainRefusal mostPrincipals (principalFits formulas demarcations grounds ranks)) fit i × (i ≤ count)
+abbrev invariant_loop : tie.invariant_loop
+invariant_loop formulas demarcations count grounds ranks fit₀ i₀ fit i =
+    Accepted (plain_refusal most_principals (principal_fits formulas demarcations grounds ranks)) fit i × (i ≤ count)
 
-abbrev decreases-loop : tie.decreases-loop
-decreases-loop formulas demarcations count grounds ranks fit₀ i₀ fit i = count - i
+abbrev decreases_loop : tie.decreases_loop
+decreases_loop formulas demarcations count grounds ranks fit₀ i₀ fit i = count - i
 
-returns : tie.Need-returns invariant-loop decreases-loop
-unfolding principalsLoad
-returns c = lines-over _ _ _ c.if1.true
+returns : tie.Need-returns invariant_loop decreases_loop
+unfolding principals_load
+returns c = lines_over _ _ _ c.if1.true
 
-loop-holds : tie.Need-loop-init invariant-loop decreases-loop
-loop-holds c = (accepted-none, omega arith)
+loop_holds : tie.Need-loop-init invariant_loop decreases_loop
+loop_holds c = (accepted_none, omega arith)
 
-element-copy-out-principal-refusal : tie.Need-element-copy-out-principal-refusal invariant-loop decreases-loop
-element-copy-out-principal-refusal c = search rules
+element_copy_out_principal_refusal : tie.Need-element-copy-out-principal-refusal invariant_loop decreases_loop
+element_copy_out_principal_refusal c = search rules
 
-element-copy-out-principal-refusal-2 :
-    tie.Need-element-copy-out-principal-refusal-2 invariant-loop decreases-loop
-element-copy-out-principal-refusal-2 c = search rules
+element_copy_out_principal_refusal_2 :
+    tie.Need-element-copy-out-principal-refusal-2 invariant_loop decreases_loop
+element_copy_out_principal_refusal_2 c = search rules
 
-principal-refusal-requires : tie.Need-principal-refusal-requires invariant-loop decreases-loop
-principal-refusal-requires c κs = search rules
+principal_refusal_requires : tie.Need-principal-refusal-requires invariant_loop decreases_loop
+principal_refusal_requires c κs = search rules
 
-add-i : tie.Need-overflow-add-i invariant-loop decreases-loop
-add-i c = search rules
+add_i : tie.Need-overflow-add-i invariant_loop decreases_loop
+add_i c = search rules
 
-loop-less : tie.Need-loop-smaller invariant-loop decreases-loop
-loop-less c = search rules
+loop_less : tie.Need-loop-smaller invariant_loop decreases_loop
+loop_less c = search rules
 
-loop-again : tie.Need-loop-preserved invariant-loop decreases-loop
-loop-again c = (accepted-more c.before.before.before.before.loop.invariant.0 c.principal-refusal.ensures, omega arith)
+loop_again : tie.Need-loop-preserved invariant_loop decreases_loop
+loop_again c = (accepted_more c.before.before.before.before.loop.invariant.0 c.principal-refusal.ensures, omega arith)
 
-zero-from-requires : tie.Need-zero-from-requires invariant-loop decreases-loop
-zero-from-requires c κs = search rules
+zero_from_requires : tie.Need-zero-from-requires invariant_loop decreases_loop
+zero_from_requires c κs = search rules
 
-zero-from-requires-2 : tie.Need-zero-from-requires-2 invariant-loop decreases-loop
-zero-from-requires-2 c κs = search rules
+zero_from_requires_2 : tie.Need-zero-from-requires-2 invariant_loop decreases_loop
+zero_from_requires_2 c κs = search rules
 
-returns-2 : tie.Need-returns-2 invariant-loop decreases-loop
-unfolding principalsLoad
-returns-2 c =
+returns_2 : tie.Need-returns-2 invariant_loop decreases_loop
+unfolding principals_load
+returns_2 c =
     let h = c.before.before.before.before.before in
     let a = h.before.before.args in
-    lines-all _ _ _ h.before.if1.false h.loop.invariant.0 (omega arith)
-    (zeros-two a.count a.grounds.now a.ranks.now c.before.before.zero-from.ensures c.zero-from2.ensures)
+    lines_all _ _ _ h.before.if1.false h.loop.invariant.0 (omega arith)
+    (zeros_two a.count a.grounds.now a.ranks.now c.before.before.zero-from.ensures c.zero-from2.ensures)
 
-pub principals-load-spec : {M : Type 1} → statement M
-principals-load-spec =
+pub principals_load_spec : {M : Type 1} → statement M
+principals_load_spec =
     tie.close
     (tie.spec
-    invariant-loop
-    decreases-loop
+    invariant_loop
+    decreases_loop
     returns
-    loop-holds
-    element-copy-out-principal-refusal
-    element-copy-out-principal-refusal-2
-    principal-refusal-requires
-    add-i
-    loop-less
-    loop-again
-    zero-from-requires
-    zero-from-requires-2
-    returns-2)
+    loop_holds
+    element_copy_out_principal_refusal
+    element_copy_out_principal_refusal_2
+    principal_refusal_requires
+    add_i
+    loop_less
+    loop_again
+    zero_from_requires
+    zero_from_requires_2
+    returns_2)

@@ -6,5 +6,5 @@ use Rattle.vertices.proofs.all.Tie as tie
 returns : tie.Need-returns
 returns c = all_true 256
 
-pub all-spec : {M : Type 1} → statement M
-all-spec = tie.close (tie.spec returns)
+pub all_spec : {M : Type 1} → statement M
+all_spec = tie.close (tie.spec returns)

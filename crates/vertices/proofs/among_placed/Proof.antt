@@ -2,9 +2,9 @@
 use mathlib.Core.Path.{sym, ap, ◌∙◌}
 use mathlib.Core.Bool.{Bool, ◌&&◌}
 use borrow.Author.Rules.{rules}
-use Rattle.common.specs.BoolLaws.{and-true, and-false}
-use Rattle.vertices.specs.Steps.{isIn}
-use Rattle.vertices.proofs.Placed.{placed-everywhere, placed_one, placed-nowhere}
+use Rattle.common.specs.BoolLaws.{and_true, and_false}
+use Rattle.vertices.specs.Steps.{is_in}
+use Rattle.vertices.proofs.Placed.{placed_everywhere, placed_one, placed_nowhere}
 use Rattle.vertices.proofs.among_placed.Statement.{statement}
 use Rattle.vertices.proofs.among_placed.Tie as tie
 
@@ -13,36 +13,36 @@ returns c =
     let a = c.before.before.args in
     record {
       members =
-          λ v. sym (ap (λ (b : Bool). isIn a.asked.now v && b) (placed-everywhere a.w v c.before.if1.true) ∙ and-true (isIn a.asked.now v));
+          λ v. sym (ap (λ (b : Bool). is_in a.asked.now v && b) (placed_everywhere a.w v c.before.if1.true) ∙ and_true (is_in a.asked.now v));
     }
 
-cast-only : tie.Need-overflow-cast-only
-cast-only c = search rules
+cast_only : tie.Need-overflow-cast-only
+cast_only c = search rules
 
-only-requires : tie.Need-only-requires
-only-requires c κs = search rules
+only_requires : tie.Need-only-requires
+only_requires c κs = search rules
 
-returns-2 : tie.Need-returns-2
-returns-2 c =
+returns_2 : tie.Need-returns-2
+returns_2 c =
     let a = c.before.before.before.args in
     record {
       members =
           λ v. c.only.ensures.members v
-          ∙ ap (λ (b : Bool). isIn a.asked.now v && b) (sym (placed_one a.w v c.before.if2.true));
+          ∙ ap (λ (b : Bool). is_in a.asked.now v && b) (sym (placed_one a.w v c.before.if2.true));
     }
 
-none-requires : tie.Need-none-requires
-none-requires c κs = search rules
+none_requires : tie.Need-none-requires
+none_requires c κs = search rules
 
-returns-3 : tie.Need-returns-3
-returns-3 c =
+returns_3 : tie.Need-returns-3
+returns_3 c =
     let a = c.before.before.before.args in
     record {
       members =
           λ v. c.none.ensures.1 v
-          ∙ sym (ap (λ (b : Bool). isIn a.asked.now v && b) (placed-nowhere a.w v c.before.before.if1.false c.before.if2.false)
-          ∙ and-false (isIn a.asked.now v));
+          ∙ sym (ap (λ (b : Bool). is_in a.asked.now v && b) (placed_nowhere a.w v c.before.before.if1.false c.before.if2.false)
+          ∙ and_false (is_in a.asked.now v));
     }
 
-pub among-placed-spec : {M : Type 1} → statement M
-among-placed-spec = tie.close (tie.spec returns cast-only only-requires returns-2 none-requires returns-3)
+pub among_placed_spec : {M : Type 1} → statement M
+among_placed_spec = tie.close (tie.spec returns cast_only only_requires returns_2 none_requires returns_3)

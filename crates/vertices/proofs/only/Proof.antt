@@ -3,23 +3,23 @@ use mathlib.Core.Path.{◌∙◌}
 use Prim.Native.Nat.{◌<◌}
 use native.Mathlib.Omega.{arith}
 use lib.ListN.{length}
-use Rattle.vertices.specs.Steps.{isIn}
+use Rattle.vertices.specs.Steps.{is_in}
 use Rattle.vertices.proofs.VertexSets.{stored, picked}
 use borrow.Author.Rules.{rules}
 use Rattle.vertices.proofs.only.Statement.{statement}
 use Rattle.vertices.proofs.only.Tie as tie
 
-none-requires : tie.Need-none-requires
-none-requires c κs = search rules
+none_requires : tie.Need-none-requires
+none_requires c κs = search rules
 
-index-requires : tie.Need-index-requires
-index-requires c κs = search rules
+index_requires : tie.Need-index-requires
+index_requires c κs = search rules
 
-element-copy-out-r : tie.Need-element-copy-out-r
-element-copy-out-r c = search rules
+element_copy_out_r : tie.Need-element-copy-out-r
+element_copy_out_r c = search rules
 
-array-write-r : tie.Need-array-write-r
-array-write-r c = search rules
+array_write_r : tie.Need-array-write-r
+array_write_r c = search rules
 
 returns : tie.Need-returns
 returns c =
@@ -30,10 +30,10 @@ returns c =
     record {
       members =
           λ v.
-          stored none.result i.result (isIn a.asked.now i.result) v h
+          stored none.result i.result (is_in a.asked.now i.result) v h
           ∙ rw (none.ensures.1 v, i.ensures.0) (picked a.asked.now a.x v);
     }
 
-pub only-spec : {M : Type 1} → statement M
-only-spec =
-    tie.close (tie.spec none-requires index-requires element-copy-out-r array-write-r returns)
+pub only_spec : {M : Type 1} → statement M
+only_spec =
+    tie.close (tie.spec none_requires index_requires element_copy_out_r array_write_r returns)

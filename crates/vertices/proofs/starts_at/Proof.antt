@@ -11,16 +11,16 @@ use Rattle.vertices.proofs.starts_at.Tie as tie
 returns : tie.Need-returns
 returns c = record { yes = λ e. absurd (false≢true e); no = λ e l h. absurd (omega arith) }
 
-edge-at-requires : tie.Need-edge-at-requires
-edge-at-requires c κs =
+edge_at_requires : tie.Need-edge-at-requires
+edge_at_requires c κs =
     let s = c.before in
     (omega (arith, s.requires.0.few), s.requires.0.within s.args.p s.requires.1 c.if1.false)
 
-element-copy-out-result : tie.Need-element-copy-out-result
-element-copy-out-result c = search rules
+element_copy_out_result : tie.Need-element-copy-out-result
+element_copy_out_result c = search rules
 
-returns-2 : tie.Need-returns-2
-returns-2 c =
+returns_2 : tie.Need-returns-2
+returns_2 c =
     let edge = c.before in
     let a = edge.before.before.args in
     let start = ap (at a.starts.now) edge.edge_at.ensures.0 in
@@ -29,5 +29,5 @@ returns-2 c =
       no = λ e l h. false≢true (sym e ∙ eq-eqb _ a.x (start ∙ h));
     }
 
-pub starts-at-spec : {M : Type 1} → statement M
-starts-at-spec = tie.close (tie.spec returns edge-at-requires element-copy-out-result returns-2)
+pub starts_at_spec : {M : Type 1} → statement M
+starts_at_spec = tie.close (tie.spec returns edge_at_requires element_copy_out_result returns_2)

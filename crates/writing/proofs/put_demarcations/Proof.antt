@@ -2,81 +2,81 @@
 use Prim.Native.Nat.{◌-◌}
 use native.Mathlib.Omega.{arith}
 use borrow.Author.Rules.{rules}
-use Rattle.octets.specs.WritingLaws.{length-line}
-use Rattle.writing.specs.Drafts.{demarcationLine}
-use Rattle.writing.specs.DraftLaws.{Writing, writing_start, writing-room, writing_more, writing-length, writing-end}
-use Rattle.writing.specs.DraftLaws.{room-body, put-body}
+use Rattle.octets.specs.WritingLaws.{length_line}
+use Rattle.writing.specs.Drafts.{demarcation_line}
+use Rattle.writing.specs.DraftLaws.{Writing, writing_start, writing_room, writing_more, writing_length, writing_end}
+use Rattle.writing.specs.DraftLaws.{room_body, put_body}
 use Rattle.writing.proofs.put_demarcations.Statement.{statement}
 use Rattle.writing.proofs.put_demarcations.Tie as tie
 
-abbrev invariant-loop : tie.invariant-loop
-invariant-loop buffer₀ count privileges draft₀ i₀ buffer draft i =
-    Writing buffer₀ draft₀ count (demarcationLine 0x05 privileges) buffer draft i
+abbrev invariant_loop : tie.invariant_loop
+invariant_loop buffer₀ count privileges draft₀ i₀ buffer draft i =
+    Writing buffer₀ draft₀ count (demarcation_line 0x05 privileges) buffer draft i
 
-abbrev decreases-loop : tie.decreases-loop
-decreases-loop buffer₀ count privileges draft₀ i₀ buffer draft i = count - i
+abbrev decreases_loop : tie.decreases_loop
+decreases_loop buffer₀ count privileges draft₀ i₀ buffer draft i = count - i
 
 -- from a turn of the loop back to the function's entry, and from a body that was made back to its turn
-abbrev entry : tie.At-loop invariant-loop decreases-loop → tie.Start invariant-loop decreases-loop
+abbrev entry : tie.At-loop invariant_loop decreases_loop → tie.Start invariant_loop decreases_loop
 entry c = c.before.before.before
 
-abbrev turn : tie.After-body invariant-loop decreases-loop → tie.At-loop invariant-loop decreases-loop
+abbrev turn : tie.After-body invariant_loop decreases_loop → tie.At-loop invariant_loop decreases_loop
 turn c = c.before.before.before.before.before
 
-loop-holds : tie.Need-loop-init invariant-loop decreases-loop
-loop-holds c = writing_start _ _ _ _
+loop_holds : tie.Need-loop-init invariant_loop decreases_loop
+loop_holds c = writing_start _ _ _ _
 
-mul-privilege-octets : tie.Need-overflow-mul-privilege-octets invariant-loop decreases-loop
-mul-privilege-octets c = search rules
+mul_privilege_octets : tie.Need-overflow-mul-privilege-octets invariant_loop decreases_loop
+mul_privilege_octets c = search rules
 
-shared-slice-read-privilege-octets : tie.Need-shared-slice-read-privilege-octets invariant-loop decreases-loop
-shared-slice-read-privilege-octets c = omega (arith, (entry c.before.before).pre.0)
+shared_slice_read_privilege_octets : tie.Need-shared-slice-read-privilege-octets invariant_loop decreases_loop
+shared_slice_read_privilege_octets c = omega (arith, (entry c.before.before).pre.0)
 
-privilege-octets-requires : tie.Need-privilege-octets-requires invariant-loop decreases-loop
-privilege-octets-requires c κs = search rules
+privilege_octets_requires : tie.Need-privilege-octets-requires invariant_loop decreases_loop
+privilege_octets_requires c κs = search rules
 
-slice-aggregate-put-line : tie.Need-slice-aggregate-put-line invariant-loop decreases-loop
-slice-aggregate-put-line c = search rules
+slice_aggregate_put_line : tie.Need-slice-aggregate-put-line invariant_loop decreases_loop
+slice_aggregate_put_line c = search rules
 
-put-line-requires : tie.Need-put-line-requires invariant-loop decreases-loop
-put-line-requires c κs =
+put_line_requires : tie.Need-put-line-requires invariant_loop decreases_loop
+put_line_requires c κs =
     let t = turn c in
-    room-body c.before.before.privilege-octets.ensures (omega arith)
-    (writing-room 23 (λ j. length-line _ _) (entry t).pre.1 t.loop.inv (omega arith))
+    room_body c.before.before.privilege-octets.ensures (omega arith)
+    (writing_room 23 (λ j. length_line _ _) (entry t).pre.1 t.loop.inv (omega arith))
 
-add-i : tie.Need-overflow-add-i invariant-loop decreases-loop
-add-i c = search rules
+add_i : tie.Need-overflow-add-i invariant_loop decreases_loop
+add_i c = search rules
 
-loop-less : tie.Need-loop-smaller invariant-loop decreases-loop
-loop-less c = omega arith
+loop_less : tie.Need-loop-smaller invariant_loop decreases_loop
+loop_less c = omega arith
 
-loop-again : tie.Need-loop-preserved invariant-loop decreases-loop
-loop-again c =
+loop_again : tie.Need-loop-preserved invariant_loop decreases_loop
+loop_again c =
     let w = c.before.before in
     let t = turn w.before in
-    writing_more 23 (λ j. length-line _ _) (entry t).pre.1 t.loop.inv (omega arith)
-    (put-body 0x05 w.before.before.before.privilege-octets.ensures w.put-line.ensures)
+    writing_more 23 (λ j. length_line _ _) (entry t).pre.1 t.loop.inv (omega arith)
+    (put_body 0x05 w.before.before.before.privilege-octets.ensures w.put-line.ensures)
 
-same_length : tie.Need-same-length invariant-loop decreases-loop
-same_length c = writing-length 23 (λ j. length-line _ _) (entry c.before).pre.1 c.before.loop.invariant
+same_length : tie.Need-same-length invariant_loop decreases_loop
+same_length c = writing_length 23 (λ j. length_line _ _) (entry c.before).pre.1 c.before.loop.invariant
 
-returns : tie.Need-returns invariant-loop decreases-loop
-returns c = writing-end 23 (λ j. length-line _ _) (entry c.before).pre.1 c.before.loop.invariant (omega arith)
+returns : tie.Need-returns invariant_loop decreases_loop
+returns c = writing_end 23 (λ j. length_line _ _) (entry c.before).pre.1 c.before.loop.invariant (omega arith)
 
-pub put-demarcations-spec : {M : Type 1} → statement M
-put-demarcations-spec =
+pub put_demarcations_spec : {M : Type 1} → statement M
+put_demarcations_spec =
     tie.close
     (tie.spec
-    invariant-loop
-    decreases-loop
-    loop-holds
-    mul-privilege-octets
-    shared-slice-read-privilege-octets
-    privilege-octets-requires
-    slice-aggregate-put-line
-    put-line-requires
-    add-i
-    loop-less
-    loop-again
+    invariant_loop
+    decreases_loop
+    loop_holds
+    mul_privilege_octets
+    shared_slice_read_privilege_octets
+    privilege_octets_requires
+    slice_aggregate_put_line
+    put_line_requires
+    add_i
+    loop_less
+    loop_again
     same_length
     returns)

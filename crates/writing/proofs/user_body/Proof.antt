@@ -4,14 +4,14 @@ use borrow.Author.Rules.{rules}
 use Rattle.writing.proofs.user_body.Statement.{statement}
 use Rattle.writing.proofs.user_body.Tie as tie
 
-cast-t5 : tie.Need-overflow-cast-t5
-cast-t5 c = search rules
+cast_t5 : tie.Need-overflow-cast-t5
+cast_t5 c = search rules
 
-cast-t7 : tie.Need-overflow-cast-t7
-cast-t7 c = search rules
+cast_t7 : tie.Need-overflow-cast-t7
+cast_t7 c = search rules
 
 returns : tie.Need-returns
 returns c = refl
 
-pub user-body-spec : {M : Type 1} → statement M
-user-body-spec = tie.close (tie.spec cast-t5 cast-t7 returns)
+pub user_body_spec : {M : Type 1} → statement M
+user_body_spec = tie.close (tie.spec cast_t5 cast_t7 returns)

@@ -4,12 +4,12 @@ use mathlib.Core.Bool.{true}
 use borrow.Author.Rules.{rules}
 use borrow.Author.Tests.{not-true, not-false}
 use Rattle.policy.specs.Loadable.{loadable}
-use Rattle.bundle.proofs.Answers.{unmeasured, measured-length}
+use Rattle.bundle.proofs.Answers.{unmeasured, measured_length}
 use Rattle.bundle.proofs.writer.measure.Statement.{statement}
 use Rattle.bundle.proofs.writer.measure.Tie as tie
 
-loadable-requires : tie.Need-loadable-requires
-loadable-requires c κs = search rules
+loadable_requires : tie.Need-loadable-requires
+loadable_requires c κs = search rules
 
 returns : tie.Need-returns
 returns c =
@@ -18,11 +18,11 @@ returns c =
 loads : (c : tie.Else1) → loadable c.before.before.args.rules ≡ true
 loads c = sym c.before.loadable.ensures.decides ∙ not-false _ c.if1.false
 
-bundle-length-requires : tie.Need-bundle-length-requires
-bundle-length-requires c κs = loads c
+bundle_length_requires : tie.Need-bundle-length-requires
+bundle_length_requires c κs = loads c
 
-returns-2 : tie.Need-returns-2
-returns-2 c = (measured-length _ (loads c.before) c.bundle-length.ensures, c.before.before.loadable.ensures.typed)
+returns_2 : tie.Need-returns-2
+returns_2 c = (measured_length _ (loads c.before) c.bundle_length_lem.ensures, c.before.before.loadable.ensures.typed)
 
-pub measure-spec : {M : Type 1} → statement M
-measure-spec = tie.close (tie.spec loadable-requires returns bundle-length-requires returns-2)
+pub measure_spec : {M : Type 1} → statement M
+measure_spec = tie.close (tie.spec loadable_requires returns bundle_length_requires returns_2)

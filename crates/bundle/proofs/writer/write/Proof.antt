@@ -6,54 +6,54 @@ use native.Mathlib.Omega.{arith}
 use borrow.Author.Rules.{rules}
 use lib.ListN.{length}
 use Rattle.policy.specs.Loadable.{loadable}
-use Rattle.bundle.specs.Writing.{bundleOf}
-use Rattle.bundle.proofs.Answers.{measures, writes-unloadable, writes_short, writes-all}
-use Rattle.bundle.proofs.Whole.{room-start, room-grounds, room-end, whole, whole_length}
+use Rattle.bundle.specs.Writing.{bundle_of}
+use Rattle.bundle.proofs.Answers.{measures, writes_unloadable, writes_short, writes_all}
+use Rattle.bundle.proofs.Whole.{room_start, room_grounds, room_end, whole, whole_length}
 use Rattle.bundle.proofs.writer.write.Statement.{statement}
 use Rattle.bundle.proofs.writer.write.Tie as tie
 
-measure-requires : tie.Need-measure-requires
-measure-requires c κs = search rules
+measure_requires : tie.Need-measure-requires
+measure_requires c κs = search rules
 
 returns : tie.Need-returns
-returns c = let m = c.before.before.measure.ensures in writes-unloadable _ _ m.1 m.0 c.if1.true
+returns c = let m = c.before.before.measure.ensures in writes_unloadable _ _ m.1 m.0 c.if1.true
 
 -- past the first test some bundle loads to the record; past the second there is room for it
 loads : (e : tie.Else1) → (loadable e.before.before.before.before.args.rules ≡ true)
 loads e = (measures _ e.before.before.measure.ensures.0 e.if1.false).0
 
-needs-length : (e : tie.Else1)
-    → e.before.before.measure.result.length ≡ length (bundleOf e.before.before.before.before.args.rules)
-needs-length e = (measures _ e.before.before.measure.ensures.0 e.if1.false).1
+needs_length : (e : tie.Else1)
+    → e.before.before.measure.result.length ≡ length (bundle_of e.before.before.before.before.args.rules)
+needs_length e = (measures _ e.before.before.measure.ensures.0 e.if1.false).1
 
-returns-2 : tie.Need-returns-2
-returns-2 c =
-    let e = c.before.before in writes_short _ _ e.before.before.measure.ensures.1 (loads e) (needs-length e) c.if2.true
+returns_2 : tie.Need-returns-2
+returns_2 c =
+    let e = c.before.before in writes_short _ _ e.before.before.measure.ensures.1 (loads e) (needs_length e) c.if2.true
 
 fits : (e : tie.Else2)
-    → length (bundleOf e.before.before.before.before.before.before.args.rules) ≤ length
+    → length (bundle_of e.before.before.before.before.before.before.args.rules) ≤ length
     e.before.before.before.before.before.before.args.buffer.now
-fits e = omega (arith, needs-length e.before.before, e.if2.false)
+fits e = omega (arith, needs_length e.before.before, e.if2.false)
 
-put-graph-requires : tie.Need-put-graph-requires
-put-graph-requires c κs =
+put_graph_requires : tie.Need-put-graph-requires
+put_graph_requires c κs =
     let e = c.before in
     let l = loads e.before.before in
-    (l, e.before.before.before.before.measure.ensures.1, room-start _ l (fits e))
+    (l, e.before.before.before.before.measure.ensures.1, room_start _ l (fits e))
 
-put-grounds-requires : tie.Need-put-grounds-requires
-put-grounds-requires c κs =
+put_grounds_requires : tie.Need-put-grounds-requires
+put_grounds_requires c κs =
     let g = c.before.before.before in
     let e = g.before.before in
     let l = loads e.before.before in
-    (l, e.before.before.before.before.measure.ensures.1, room-grounds _ l (fits e) g.put-graph.ensures)
+    (l, e.before.before.before.before.measure.ensures.1, room_grounds _ l (fits e) g.put-graph.ensures)
 
-put-end-requires : tie.Need-put-end-requires
-put-end-requires c κs =
+put_end_requires : tie.Need-put-end-requires
+put_end_requires c κs =
     let h = c.before.before.before in
     let g = h.before.before.before.before in
     let e = g.before.before in
-    room-end _ (loads e.before.before) (fits e) g.put-graph.ensures h.put-grounds.ensures
+    room_end _ (loads e.before.before) (fits e) g.put-graph.ensures h.put-grounds.ensures
 
 same_length : tie.Need-same-length
 same_length c =
@@ -63,25 +63,25 @@ same_length c =
     whole_length _ (loads e.before.before) (fits e) g.put-graph.ensures h.put-grounds.ensures
     c.before.before.put-end.ensures
 
-returns-3 : tie.Need-returns-3
-returns-3 c =
+returns_3 : tie.Need-returns-3
+returns_3 c =
     let h = c.before.before.before.before.before.before in
     let g = h.before.before.before.before in
     let e = g.before.before in
     let l = loads e.before.before in
     let m = e.before.before.before.before.measure.ensures in
-    writes-all _ _ m.1 l m.0 (fits e)
+    writes_all _ _ m.1 l m.0 (fits e)
     (whole _ l (fits e) g.put-graph.ensures h.put-grounds.ensures c.before.before.put-end.ensures)
 
 pub write_spec : {M : Type 1} → statement M
 write_spec =
     tie.close
     (tie.spec
-    measure-requires
+    measure_requires
     returns
-    returns-2
-    put-graph-requires
-    put-grounds-requires
-    put-end-requires
+    returns_2
+    put_graph_requires
+    put_grounds_requires
+    put_end_requires
     same_length
-    returns-3)
+    returns_3)

@@ -44,11 +44,11 @@ use Rattle.policy.specs.declared.Record.{Record}
 use Rattle.policy.specs.Typed.{Typed}
 use Rattle.policy.specs.contracts.Record as T
 use Rattle.policy.proofs.Record.TheLaws as T'
-use Rattle.replay.specs.Replay.{bufferAfter, replayed}
+use Rattle.replay.specs.Replay.{buffer_after, replayed}
 use Rattle.replay.specs.declared.Replayed.{Replayed}
 use Rattle.replay.specs.contracts.Replayed as B
 use Rattle.replay.proofs.Replayed.TheLaws as B'
-use Rattle.capi.proofs.Lending.{machine, IsRecord, typed, holds, lent, record-opens, record-closes, Walked, walk-proves}
+use Rattle.capi.proofs.Lending.{machine, IsRecord, typed, holds, lent, record_opens, record_closes, Walked, walk_proves}
 use Rattle.replay.specs.contracts.answer_all as callee
 use Rattle.replay.proofs.answer_all.Symbol as callee-def
 use Rattle.replay.proofs.answer_all.Symbol.{name as #replay·answer-all}
@@ -105,18 +105,18 @@ module _ {M : Type 1} {𝓤 : Ura M} (𝓛 : Logic 𝓤) (at_mem : Memory → SP
   abbrev passed : Record × (Bor (List ℕ) × (Bor (List ℕ) × Unit {0}))
   passed = (h, (y, (z, tt)))
 
-  abbrev to-asked : (Asked 𝓛 at_mem run).Ghost
-  to-asked = (((κ', (κ'', tt)), (q', (q'', tt)), tt, passed, (machine h ∷ [], (s ∷ [], (t ∷ [], tt)))), tt)
+  abbrev to_asked : (Asked 𝓛 at_mem run).Ghost
+  to_asked = (((κ', (κ'', tt)), (q', (q'', tt)), tt, passed, (machine h ∷ [], (s ∷ [], (t ∷ [], tt)))), tt)
 
-  goes-asked : IsRecord h → ent 𝓤 (⋆ 𝓛 (tokens ∷ slice ∷ buffer ∷ [])) ((Asked 𝓛 at_mem run).pre to-asked)
-  goes-asked is =
+  goes_asked : IsRecord h → ent 𝓤 (⋆ 𝓛 (tokens ∷ slice ∷ buffer ∷ [])) ((Asked 𝓛 at_mem run).pre to_asked)
+  goes_asked is =
       qed 𝓛 (tokens ∷ slice ∷ buffer ∷ []) ∵ nothing ! $ move ! (3 ∷ 0 ∷ []) $ fjoin ! $ move ! (2 ∷ 0 ∷ []) $ fjoin ! $
       owned ! T.the_row (Is T.the_row) (LL.makes T.the_type T'.the_plain 𝓛) h _ is $ fjoin ! $ move ! (1 ∷ 0 ∷ []) $ join ! $
       frame ! $ done !
 
   -- what the callee says of its result and of the buffer's last list
   abbrev Says : Replayed → List ℕ → Type 0
-  Says r zs = (r ≡ replayed h y.now z.now) × (zs ≡ bufferAfter h y.now z.now) × Typed h
+  Says r zs = (r ≡ replayed h y.now z.now) × (zs ≡ buffer_after h y.now z.now) × Typed h
 
   exits : (r : Replayed) (zs : List ℕ) → Says r zs → length zs ≡ length z.now → r.count < 2 ^ 64
       → ent 𝓤 (⋆ 𝓛 (holds γ r.rules ∷ lent κ b o γ ∷ ‵ (flft κ q) ∷ tokens ∷ ‵ (finally u8 z.name zs) ∷ []))
@@ -155,7 +155,7 @@ module _ {M : Type 1} {𝓤 : Ura M} (𝓛 : Logic 𝓤) (at_mem : Memory → SP
         pass1 ! (init ! 8 refl (tt, (tt, (record { fits = z-room.0 }, tt)))) $ pass0 ! $
         -- [_7; …; _6; …; _5; …; _4; …; _3; …; _2; …; _1; …; room for _0; …; answers; true; calls; what the record holds; the borrow;
         -- the record's token; the slices' tokens]
-        move ! (19 ∷ 20 ∷ 21 ∷ []) $ record-opens b o ! tt h (λ g.
+        move ! (19 ∷ 20 ∷ 21 ∷ []) $ record_opens b o ! tt h (λ g.
         -- [the record's cell; the open borrow; two names; _7; …; _6; …; _5; …; _4; …; _3; …; _2; …; _1; …; room for _0; …; answers; true;
         -- calls; the slices' tokens]
         assigns ! (of_opd ! (load ! (from ! (hop ! (look ! 16 refl) (stop !))) (look_raw ! 0 refl))) (from ! (stop !))
@@ -165,10 +165,10 @@ module _ {M : Type 1} {𝓤 : Ura M} (𝓛 : Logic 𝓤) (at_mem : Memory → SP
         assigns ! (agg ! (and_then ! (load ! (from ! (stop !)) (look ! 6 refl))
         (and_then ! (load ! (from ! (fld ! refl (stop !))) (look_in ! 12 (sub ! 1 refl (whole !)))) (no_more !)))) (from ! (stop !))
         (init ! 4 refl (tt, (tt, (record { fits = z-room.0 }, tt)))) $
-        move ! (23 ∷ 22 ∷ 20 ∷ []) $ use3 𝓛 (raw ((Asked 𝓛 at_mem run).pre to-asked)) (goes-asked g) $
+        move ! (23 ∷ 22 ∷ 20 ∷ []) $ use3 𝓛 (raw ((Asked 𝓛 at_mem run).pre to_asked)) (goes_asked g) $
         -- [what the callee asks; the record's cell; the open borrow; two names; _7; …; _6; …; _5; …; _4; …; _3; …; _2; …; _1; …;
         -- room for _0; …; true]
-        calls_at ! frames (Asked 𝓛 at_mem run) known to-asked (and_then ! (load ! (from ! (stop !)) (look ! 9 refl))
+        calls_at ! frames (Asked 𝓛 at_mem run) known to_asked (and_then ! (load ! (from ! (stop !)) (look ! 9 refl))
         (and_then ! (load ! (from ! (stop !)) (look ! 15 refl)) (and_then ! (load ! (from ! (stop !)) (look ! 5 refl)) (no_more !)))) (λ v.
         use1 𝓛 (later (some (Back v))) (id⊢ 𝓤 _) $ await ! tt $ pick ! (λ r. split ! $ move ! (1 ∷ []) $
         use1 𝓛 (some (Lists r)) (id⊢ 𝓤 _) $ pick ! (λ zs. split ! $ move ! (1 ∷ []) $ heard ! (Says r zs.1.1.0) (λ e.
@@ -185,7 +185,7 @@ module _ {M : Type 1} {𝓤 : Ura M} (𝓛 : Logic 𝓤) (at_mem : Memory → SP
         (store_raw ! 2 refl (typed T.the_type T'.the_laws 𝓛 r.rules (LL.owed B.the_type B'.the_laws r _ is).1.0)) $
         assigns ! (of_opd ! (load ! (from ! (fld ! refl (stop !))) (look_in ! 12 (sub ! 0 refl (whole !))))) (from ! (stop !))
         (init ! 20 refl (tt, record { fits = (LL.owed B.the_type B'.the_laws r _ is).0.1 })) $
-        move ! (2 ∷ 3 ∷ 4 ∷ 5 ∷ []) $ record-closes b o ! tt r.rules (LL.owed B.the_type B'.the_laws r _ is).1.0 $
+        move ! (2 ∷ 3 ∷ 4 ∷ 5 ∷ []) $ record_closes b o ! tt r.rules (LL.owed B.the_type B'.the_laws r _ is).1.0 $
         -- [what the record holds; the borrow; the record's token; the slices' tokens; the last list; _7; …; _6; …; _5; …; _4; …; _3; …;
         -- _2; …; _1; …; _0; …]
         returns ! (look ! 19 refl) $ forget ! 5 refl $ forget ! 7 refl $ forget ! 9 refl $ forget ! 11 refl $ forget ! 13 refl $
@@ -217,10 +217,10 @@ module _ {M : Type 1} {𝓤 : Ura M} (𝓛 : Logic 𝓤) (at_mem : Memory → SP
     ),
   )
 
-pub access-answer-spec : {M : Type 1} → stated.statement M
+pub access_answer_spec : {M : Type 1} → stated.statement M
 unfolding code.routine
-access-answer-spec 𝓤 𝓛 𝓜 𝓡 =
+access_answer_spec 𝓤 𝓛 𝓜 𝓡 =
     let A = 𝓛.A in
-    walk-proves 𝓛 𝓜 𝓡 code.env #capi·lent·access-answer f.ended stayed (f.clauses 𝓛 𝓜.mem 𝓡.run) code.function
+    walk_proves 𝓛 𝓜 𝓡 code.env #capi·lent·access-answer f.ended stayed (f.clauses 𝓛 𝓜.mem 𝓡.run) code.function
     #replay·answer-all callee-def.routine (Asked 𝓛 𝓜.mem 𝓡.run) (code.unfolded 𝓤 𝓛.H 𝓜 𝓡) (goes 𝓛 𝓜.mem 𝓡.run)
     (walks 𝓛 𝓜.mem 𝓡.run) code.calls-replay::answer-all (callee-thm.met 𝓤 𝓛 𝓜 𝓡)

@@ -41,11 +41,11 @@ use denote.Exit.{yes}
 use Rattle.policy.specs.declared.Record.{Record}
 use Rattle.policy.specs.contracts.Record as T
 use Rattle.policy.proofs.Record.TheLaws as T'
-use Rattle.capi.specs.Lent.{loadLeft}
+use Rattle.capi.specs.Lent.{load_left}
 use Rattle.capi.specs.declared.lent.Left.{Left}
 use Rattle.capi.specs.contracts.lent.Left as B
 use Rattle.capi.proofs.lent.Left.TheLaws as B'
-use Rattle.capi.proofs.Lending.{typed, holds, lent, record-opens, record-closes, Walked, walk-proves}
+use Rattle.capi.proofs.Lending.{typed, holds, lent, record_opens, record_closes, Walked, walk_proves}
 use Rattle.capi.specs.contracts.lent.load_left as callee
 use Rattle.capi.proofs.lent.load_left.Symbol as callee-def
 use Rattle.capi.proofs.lent.load_left.Symbol.{name as #capi·lent·load-left}
@@ -66,8 +66,8 @@ module _ {M : Type 1} {𝓤 : Ura M} (𝓛 : Logic 𝓤) (at_mem : Memory → SP
   abbrev Ensured : Lft → Bor (List ℕ) → Left → SProp 𝓤
   Ensured κ y r = ensured 𝓛 callee.ended (callee.clauses 𝓛 at_mem run) (κ, tt) (y, tt) tt r
 
-  clause : (κ : Lft) (y : Bor (List ℕ)) (r : Left) → ent 𝓤 (Ensured κ y r) (fact 𝓤 (r ≡ loadLeft y.now))
-  clause κ y r = ex_e 𝓤 _ (λ ws. snd∗ 𝓤 (sem 𝓛 (lasts callee.ended (κ, tt) (y, tt) ws)) (fact 𝓤 (r ≡ loadLeft y.now)))
+  clause : (κ : Lft) (y : Bor (List ℕ)) (r : Left) → ent 𝓤 (Ensured κ y r) (fact 𝓤 (r ≡ load_left y.now))
+  clause κ y r = ex_e 𝓤 _ (λ ws. snd∗ 𝓤 (sem 𝓛 (lasts callee.ended (κ, tt) (y, tt) ws)) (fact 𝓤 (r ≡ load_left y.now)))
 
 module _ {M : Type 1} {𝓤 : Ura M} (𝓛 : Logic 𝓤) (at_mem : Memory → SProp 𝓤) (run : Routine → Fun 𝓤)
     (κ κ' : Lft) (q q' : Share) (b o : ℕ) (γ : GName) (h : Record) (y : MutBor (List ℕ)) (room : Room u8 (length y.now)) where
@@ -96,14 +96,14 @@ module _ {M : Type 1} {𝓤 : Ura M} (𝓛 : Logic 𝓤) (at_mem : Memory → SP
   Post = (walk_of 𝓛 f.ended stayed (f.clauses 𝓛 at_mem run)).post bound
 
   -- what the callee's triple binds outside: the slice's own lifetime and share
-  abbrev to-asked : (Asked 𝓛 at_mem run).Ghost
-  to-asked = (((κ', tt), (q', tt), tt, (y, tt), (s ∷ [], tt)), tt)
+  abbrev to_asked : (Asked 𝓛 at_mem run).Ghost
+  to_asked = (((κ', tt), (q', tt), tt, (y, tt), (s ∷ [], tt)), tt)
 
-  goes-asked : ent 𝓤 (⋆ 𝓛 (token ∷ slice ∷ [])) ((Asked 𝓛 at_mem run).pre to-asked)
-  goes-asked =
+  goes_asked : ent 𝓤 (⋆ 𝓛 (token ∷ slice ∷ [])) ((Asked 𝓛 at_mem run).pre to_asked)
+  goes_asked =
       qed 𝓛 (token ∷ slice ∷ []) ∵ nothing ! $ move ! (2 ∷ 0 ∷ []) $ fjoin ! $ move ! (1 ∷ 0 ∷ []) $ join ! $ frame ! $ done !
 
-  exits : (r : Left) → r ≡ loadLeft y.now → r.value < 2 ^ 64
+  exits : (r : Left) → r ≡ load_left y.now → r.value < 2 ^ 64
       → ent 𝓤 (⋆ 𝓛 (holds γ r.rules ∷ lent κ b o γ ∷ ‵ (flft κ q) ∷ token ∷ [])) (Post (vint w64 r.value))
   exits r e fits =
       qed 𝓛 (holds γ r.rules ∷ lent κ b o γ ∷ ‵ (flft κ q) ∷ token ∷ []) ∵
@@ -128,22 +128,22 @@ module _ {M : Type 1} {𝓤 : Ura M} (𝓛 : Logic 𝓤) (at_mem : Memory → SP
         alloc1 ! (λ l₀. alloc1 ! (λ l₁. alloc1 ! (λ l₂. alloc1 ! (λ l₃. alloc0 ! $ params1 ! $
         pass1 ! (init ! 4 refl (tt, tt)) $ pass1 ! (init ! 2 refl (tt, (tt, (record { fits = room.0 }, tt)))) $ pass0 ! $
         -- [_3; …; _2; …; _1; …; room for _0; …; the slice; true; what the record holds; the borrow; the record's token; the slice's token]
-        move ! (13 ∷ 8 ∷ []) $ use2 𝓛 (raw ((Asked 𝓛 at_mem run).pre to-asked)) goes-asked $
-        calls_at ! frames (Asked 𝓛 at_mem run) known to-asked (and_then ! (load ! (from ! (stop !)) (look ! 3 refl)) (no_more !)) (λ v.
+        move ! (13 ∷ 8 ∷ []) $ use2 𝓛 (raw ((Asked 𝓛 at_mem run).pre to_asked)) goes_asked $
+        calls_at ! frames (Asked 𝓛 at_mem run) known to_asked (and_then ! (load ! (from ! (stop !)) (look ! 3 refl)) (no_more !)) (λ v.
         use1 𝓛 (later (some (Back v))) (id⊢ 𝓤 _) $ await ! tt $ pick ! (λ r. split ! $ move ! (1 ∷ []) $
-        use1 𝓛 (raw (fact 𝓤 (r ≡ loadLeft y.now))) (clause 𝓛 at_mem run κ' y r) $ heard ! (r ≡ loadLeft y.now) (λ e.
+        use1 𝓛 (raw (fact 𝓤 (r ≡ load_left y.now))) (clause 𝓛 at_mem run κ' y r) $ heard ! (r ≡ load_left y.now) (λ e.
         split ! $ move ! (1 ∷ []) $ peeks ! B.the_row (Is B.the_row) (shows 𝓛 B.the_row) r (v ∷ []) (λ is. drop ! $
         land ! (from ! (stop !)) (init ! 1 refl ((LL.lawful B.the_type B'.the_laws 𝓛).typed r _ is).0) $
         rewrite ! 1 (λ (u : Val). ‵ (fat full_share B'.mir l₃ 0 u)) (ap only (LL.tells B.the_type B'.the_laws r _ is)) refl $
         -- [the slice's token; _3, the result; …; _2; …; _1; …; room for _0; …; true; what the record holds; the borrow; the record's token]
-        move ! (10 ∷ 11 ∷ 12 ∷ []) $ record-opens b o ! tt h (λ _.
+        move ! (10 ∷ 11 ∷ 12 ∷ []) $ record_opens b o ! tt h (λ _.
         -- [the record's cell; the open borrow; two names; the slice's token; _3; …; _2; …; _1; …; room for _0; …]
         assigns ! (of_opd ! (load ! (from ! (fld ! refl (stop !))) (look_in ! 5 (sub ! 1 refl (whole !)))))
         (from ! (hop ! (look ! 9 refl) (stop !)))
         (store_raw ! 0 refl (typed T.the_type T'.the_laws 𝓛 r.rules (LL.owed B.the_type B'.the_laws r _ is).1.0)) $
         assigns ! (of_opd ! (load ! (from ! (fld ! refl (stop !))) (look_in ! 5 (sub ! 0 refl (whole !))))) (from ! (stop !))
         (init ! 11 refl (tt, record { fits = (LL.owed B.the_type B'.the_laws r _ is).0.1 })) $
-        record-closes b o ! tt r.rules (LL.owed B.the_type B'.the_laws r _ is).1.0 $
+        record_closes b o ! tt r.rules (LL.owed B.the_type B'.the_laws r _ is).1.0 $
         -- [what the record holds; the borrow; the record's token; the slice's token; _3; …; _2; …; _1; …; _0; …]
         returns ! (look ! 10 refl) $ forget ! 4 refl $ forget ! 6 refl $ forget ! 8 refl $ forget ! 10 refl $
         move ! (10 ∷ 11 ∷ []) $ free1 ! $ move ! (8 ∷ 9 ∷ []) $ free1 ! $ move ! (6 ∷ 7 ∷ []) $ free1 ! $ move ! (4 ∷ 5 ∷ []) $ free1 ! $
@@ -165,10 +165,10 @@ module _ {M : Type 1} {𝓤 : Ura M} (𝓛 : Logic 𝓤) (at_mem : Memory → SP
     (Goes-dropped 𝓛 2 (shr_slice_of (1 ∷ []) tt (plain (λ _. u8))) yes (λ κs x f. refl), tt),
   )
 
-pub access-load-spec : {M : Type 1} → stated.statement M
+pub access_load_spec : {M : Type 1} → stated.statement M
 unfolding code.routine
-access-load-spec 𝓤 𝓛 𝓜 𝓡 =
+access_load_spec 𝓤 𝓛 𝓜 𝓡 =
     let A = 𝓛.A in
-    walk-proves 𝓛 𝓜 𝓡 code.env #capi·lent·access-load f.ended stayed (f.clauses 𝓛 𝓜.mem 𝓡.run) code.function
+    walk_proves 𝓛 𝓜 𝓡 code.env #capi·lent·access-load f.ended stayed (f.clauses 𝓛 𝓜.mem 𝓡.run) code.function
     #capi·lent·load-left callee-def.routine (Asked 𝓛 𝓜.mem 𝓡.run) (code.unfolded 𝓤 𝓛.H 𝓜 𝓡) (goes 𝓛 𝓜.mem 𝓡.run)
     (walks 𝓛 𝓜.mem 𝓡.run) code.calls-capi::lent::load-left (callee-thm.met 𝓤 𝓛 𝓜 𝓡)

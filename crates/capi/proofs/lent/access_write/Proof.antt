@@ -43,9 +43,9 @@ use Rattle.policy.specs.declared.Record.{Record}
 use Rattle.policy.specs.Typed.{Typed}
 use Rattle.policy.specs.contracts.Record as T
 use Rattle.policy.proofs.Record.TheLaws as T'
-use Rattle.bundle.specs.Writing.{bufferAfter}
-use Rattle.capi.specs.Lent.{writeValue}
-use Rattle.capi.proofs.Lending.{machine, IsRecord, typed, Walked, walk-proves}
+use Rattle.bundle.specs.Writing.{buffer_after}
+use Rattle.capi.specs.Lent.{write_value}
+use Rattle.capi.proofs.Lending.{machine, IsRecord, typed, Walked, walk_proves}
 use Rattle.capi.specs.contracts.lent.write_value as callee
 use Rattle.capi.proofs.lent.write_value.Symbol as callee-def
 use Rattle.capi.proofs.lent.write_value.Symbol.{name as #capi·lent·write-value}
@@ -92,18 +92,18 @@ module _ {M : Type 1} {𝓤 : Ura M} (𝓛 : Logic 𝓤) (at_mem : Memory → SP
   abbrev passed : Record × (Bor (List ℕ) × Unit {0})
   passed = (h, (z, tt))
 
-  abbrev to-asked : (Asked 𝓛 at_mem run).Ghost
-  to-asked = (((κ', tt), (q', tt), tt, passed, (machine h ∷ [], (t ∷ [], tt))), tt)
+  abbrev to_asked : (Asked 𝓛 at_mem run).Ghost
+  to_asked = (((κ', tt), (q', tt), tt, passed, (machine h ∷ [], (t ∷ [], tt))), tt)
 
-  goes-asked : IsRecord h → ent 𝓤 (⋆ 𝓛 (token ∷ buffer ∷ [])) ((Asked 𝓛 at_mem run).pre to-asked)
-  goes-asked is =
+  goes_asked : IsRecord h → ent 𝓤 (⋆ 𝓛 (token ∷ buffer ∷ [])) ((Asked 𝓛 at_mem run).pre to_asked)
+  goes_asked is =
       qed 𝓛 (token ∷ buffer ∷ []) ∵ nothing ! $ move ! (2 ∷ 0 ∷ []) $ fjoin ! $
       owned ! T.the_row (Is T.the_row) (LL.makes T.the_type T'.the_plain 𝓛) h _ is $ fjoin ! $ move ! (1 ∷ 0 ∷ []) $ join ! $
       frame ! $ done !
 
   -- what the callee says of its result and of the buffer's last list
   abbrev Says : ℕ → List ℕ → Type 0
-  Says r zs = (r ≡ writeValue h z.now) × (zs ≡ bufferAfter h z.now) × Typed h
+  Says r zs = (r ≡ write_value h z.now) × (zs ≡ buffer_after h z.now) × Typed h
 
   exits : (r : ℕ) (v : Val) (zs : List ℕ) → Says r zs → length zs ≡ length z.now
       → ent 𝓤 (⋆ 𝓛 (‵ (u64.own_val r (v ∷ [])) ∷ token ∷ ‵ (finally u8 z.name zs) ∷ ‵ (flft κ q) ∷ [])) (Post v)
@@ -147,9 +147,9 @@ module _ {M : Type 1} {𝓤 : Ura M} (𝓛 : Logic 𝓤) (at_mem : Memory → SP
         assigns ! (agg ! (and_then ! (load ! (from ! (stop !)) (look ! 4 refl))
         (and_then ! (load ! (from ! (fld ! refl (stop !))) (look_in ! 8 (sub ! 1 refl (whole !)))) (no_more !)))) (from ! (stop !))
         (init ! 2 refl (tt, (tt, (record { fits = room.0 }, tt)))) $
-        move ! (16 ∷ 14 ∷ []) $ use2 𝓛 (raw ((Asked 𝓛 at_mem run).pre to-asked)) (goes-asked g) $
+        move ! (16 ∷ 14 ∷ []) $ use2 𝓛 (raw ((Asked 𝓛 at_mem run).pre to_asked)) (goes_asked g) $
         -- [what the callee asks; the record's token; the borrow; _5; …; _4; …; _3; …; _2; …; _1; …; room for _0; …; true]
-        calls_at ! frames (Asked 𝓛 at_mem run) known to-asked (and_then ! (load ! (from ! (stop !)) (look ! 7 refl))
+        calls_at ! frames (Asked 𝓛 at_mem run) known to_asked (and_then ! (load ! (from ! (stop !)) (look ! 7 refl))
         (and_then ! (load ! (from ! (stop !)) (look ! 3 refl)) (no_more !))) (λ v.
         use1 𝓛 (later (some (Back v))) (id⊢ 𝓤 _) $ await ! tt $ pick ! (λ r. split ! $ move ! (1 ∷ []) $
         use1 𝓛 (some (Lists r)) (id⊢ 𝓤 _) $ pick ! (λ zs. split ! $ move ! (1 ∷ []) $ heard ! (Says r zs.1.0) (λ e.
@@ -180,10 +180,10 @@ module _ {M : Type 1} {𝓤 : Ura M} (𝓛 : Logic 𝓤) (at_mem : Memory → SP
     (Goes-gave_slice 𝓛 2 1 tt (plain (λ _. u8)), tt),
   )
 
-pub access-write-spec : {M : Type 1} → stated.statement M
+pub access_write_spec : {M : Type 1} → stated.statement M
 unfolding code.routine
-access-write-spec 𝓤 𝓛 𝓜 𝓡 =
+access_write_spec 𝓤 𝓛 𝓜 𝓡 =
     let A = 𝓛.A in
-    walk-proves 𝓛 𝓜 𝓡 code.env #capi·lent·access-write f.ended stayed (f.clauses 𝓛 𝓜.mem 𝓡.run) code.function
+    walk_proves 𝓛 𝓜 𝓡 code.env #capi·lent·access-write f.ended stayed (f.clauses 𝓛 𝓜.mem 𝓡.run) code.function
     #capi·lent·write-value callee-def.routine (Asked 𝓛 𝓜.mem 𝓡.run) (code.unfolded 𝓤 𝓛.H 𝓜 𝓡) (goes 𝓛 𝓜.mem 𝓡.run)
     (walks 𝓛 𝓜.mem 𝓡.run) code.calls-capi::lent::write-value (callee-thm.met 𝓤 𝓛 𝓜 𝓡)

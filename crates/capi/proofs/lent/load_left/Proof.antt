@@ -6,16 +6,16 @@ use Rattle.capi.specs.Interface.{packed}
 use Rattle.capi.proofs.lent.load_left.Statement.{statement}
 use Rattle.capi.proofs.lent.load_left.Tie as tie
 
-load-requires : tie.Need-load-requires
-load-requires c κs = search rules
+load_requires : tie.Need-load-requires
+load_requires c κs = search rules
 
-packed-requires : tie.Need-packed-requires
-packed-requires c κs = search rules
+packed_requires : tie.Need-packed-requires
+packed_requires c κs = search rules
 
 returns : tie.Need-returns
 returns c =
     let e = c.before.before.load.ensures in
     λ i. record { value = (c.before.packed.ensures ∙ ap (λ (l : Loaded). packed l.number l.line) e) i; rules = (e i).rules }
 
-pub load-left-spec : {M : Type 1} → statement M
-load-left-spec = tie.close (tie.spec load-requires packed-requires returns)
+pub load_left_spec : {M : Type 1} → statement M
+load_left_spec = tie.close (tie.spec load_requires packed_requires returns)

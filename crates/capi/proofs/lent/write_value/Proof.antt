@@ -6,11 +6,11 @@ use Rattle.capi.specs.Interface.{packed}
 use Rattle.capi.proofs.lent.write_value.Statement.{statement}
 use Rattle.capi.proofs.lent.write_value.Tie as tie
 
-write-requires : tie.Need-write-requires
-write-requires c κs = search rules
+write_requires : tie.Need-write-requires
+write_requires c κs = search rules
 
-packed-requires : tie.Need-packed-requires
-packed-requires c κs = search rules
+packed_requires : tie.Need-packed-requires
+packed_requires c κs = search rules
 
 same_length : tie.Need-same-length
 same_length c = search rules
@@ -20,5 +20,5 @@ returns c =
     let e = c.before.before.before.write.ensures in
     (c.packed.ensures ∙ ap (λ (w : Written). packed w.number w.length) e.answers, e.buffer, e.typed)
 
-pub write-value-spec : {M : Type 1} → statement M
-write-value-spec = tie.close (tie.spec write-requires packed-requires same_length returns)
+pub write_value_spec : {M : Type 1} → statement M
+write_value_spec = tie.close (tie.spec write_requires packed_requires same_length returns)

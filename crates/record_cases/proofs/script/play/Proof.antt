@@ -10,85 +10,85 @@ use Rattle.record_cases.proofs.script.command_at.Reads as command-at-reads
 use Rattle.record_cases.proofs.script.place_after.Reads as place-after-reads
 use Rattle.record_cases.proofs.script.printed.Reads as printed-reads
 
-abbrev invariant-loop : tie.invariant-loop
-invariant-loop text from loaded rules₀ said₀ i₀ back₀ steps₀ rules said i back steps = steps ≤ 100000
+abbrev invariant_loop : tie.invariant_loop
+invariant_loop text from loaded rules₀ said₀ i₀ back₀ steps₀ rules said i back steps = steps ≤ 100000
 
-abbrev decreases-loop : tie.decreases-loop
-decreases-loop text from loaded rules₀ said₀ i₀ back₀ steps₀ rules said i back steps = 100000 - steps
+abbrev decreases_loop : tie.decreases_loop
+decreases_loop text from loaded rules₀ said₀ i₀ back₀ steps₀ rules said i back steps = 100000 - steps
 
 -- src/script.rt:126:15
-emptied-requires : tie.Need-emptied-requires invariant-loop decreases-loop
-emptied-requires c κs = search rules
+emptied_requires : tie.Need-emptied-requires invariant_loop decreases_loop
+emptied_requires c κs = search rules
 
 -- src/script.rt:134:5
-loop-holds : tie.Need-loop-init invariant-loop decreases-loop
-loop-holds c = search rules
+loop_holds : tie.Need-loop-init invariant_loop decreases_loop
+loop_holds c = search rules
 
 -- src/script.rt:136:13
-returns : tie.Need-returns invariant-loop decreases-loop
+returns : tie.Need-returns invariant_loop decreases_loop
 returns c = search rules
 
 -- src/script.rt:138:23
-shared-slice-read-opening : tie.Need-shared-slice-read-opening invariant-loop decreases-loop
-shared-slice-read-opening c = search rules
+shared_slice_read_opening : tie.Need-shared-slice-read-opening invariant_loop decreases_loop
+shared_slice_read_opening c = search rules
 
 -- src/script.rt:139:21
-add-after : tie.Need-overflow-add-after invariant-loop decreases-loop
-add-after c = search rules
+add_after : tie.Need-overflow-add-after invariant_loop decreases_loop
+add_after c = search rules
 
 -- src/script.rt:140:13
-command-at-requires : tie.Need-command-at-requires invariant-loop decreases-loop
-command-at-requires c κs = search rules
+command_at_requires : tie.Need-command-at-requires invariant_loop decreases_loop
+command_at_requires c κs = search rules
 
 -- src/script.rt:141:13
-changed-requires : tie.Need-changed-requires invariant-loop decreases-loop
-changed-requires c κs = search rules
+changed_requires : tie.Need-changed-requires invariant_loop decreases_loop
+changed_requires c κs = search rules
 
 -- src/script.rt:143:13
-after-call-requires : tie.Need-after-call-requires invariant-loop decreases-loop
-after-call-requires c κs = search rules
+after_call_requires : tie.Need-after-call-requires invariant_loop decreases_loop
+after_call_requires c κs = search rules
 
 -- src/script.rt:145:9
-printed-requires : tie.Need-printed-requires invariant-loop decreases-loop
-printed-requires c κs = search rules
+printed_requires : tie.Need-printed-requires invariant_loop decreases_loop
+printed_requires c κs = search rules
 
 -- src/script.rt:146:13
-place-after-requires : tie.Need-place-after-requires invariant-loop decreases-loop
-place-after-requires c κs = search rules
+place_after_requires : tie.Need-place-after-requires invariant_loop decreases_loop
+place_after_requires c κs = search rules
 
 -- src/script.rt:149:9
-add-steps : tie.Need-overflow-add-steps invariant-loop decreases-loop
-add-steps c = search rules
+add_steps : tie.Need-overflow-add-steps invariant_loop decreases_loop
+add_steps c = search rules
 
 -- src/script.rt:134:5
-loop-less : tie.Need-loop-smaller invariant-loop decreases-loop
-loop-less c = search rules
+loop_less : tie.Need-loop-smaller invariant_loop decreases_loop
+loop_less c = search rules
 
 -- src/script.rt:134:5
-loop-again : tie.Need-loop-preserved invariant-loop decreases-loop
-loop-again c = search rules
+loop_again : tie.Need-loop-preserved invariant_loop decreases_loop
+loop_again c = search rules
 
 -- src/script.rt:119:1
-returns-2 : tie.Need-returns-2 invariant-loop decreases-loop
-returns-2 c = search rules
+returns_2 : tie.Need-returns-2 invariant_loop decreases_loop
+returns_2 c = search rules
 
-pub play-spec : {M : Type 1} → statement M
-play-spec =
+pub play_spec : {M : Type 1} → statement M
+play_spec =
     tie.close
     (tie.spec
-    invariant-loop
-    decreases-loop
-    emptied-requires
-    loop-holds
+    invariant_loop
+    decreases_loop
+    emptied_requires
+    loop_holds
     returns
-    shared-slice-read-opening
-    add-after
-    command-at-requires
-    changed-requires
-    after-call-requires
-    printed-requires
-    place-after-requires
-    add-steps
-    loop-less
-    loop-again
-    returns-2)
+    shared_slice_read_opening
+    add_after
+    command_at_requires
+    changed_requires
+    after_call_requires
+    printed_requires
+    place_after_requires
+    add_steps
+    loop_less
+    loop_again
+    returns_2)
