@@ -1,5 +1,7 @@
 // The eager and the lazy question: a record, a method, an object and a requestor; the least set of grounds that will do, or 17.
 
+#![tactic(auto)]
+
 ghost use Rattle.std.specs.Prelude.{◌≡◌, ℕ, ◌+◌, ◌≤◌};
 ghost use Rattle.common.specs.Limits.{most_principals};
 ghost use Rattle.common.specs.Sets.{member};
@@ -22,7 +24,7 @@ use policy::{Memo, Record};
 use search::{Found, Masks};
 
 // What a question answers: document 01's number, the set's number, the evaluations, and the record.
-#[derive(Drop)]
+#[derive(Clone, Copy)]
 pub struct Answer {
     pub number: u8,
     pub set: u32,
@@ -31,7 +33,7 @@ pub struct Answer {
 }
 
 // What a question comes to: the same, with the memo that it leaves in place of the record.
-#[derive(Drop)]
+#[derive(Clone, Copy)]
 pub struct Decision {
     pub number: u8,
     pub set: u32,

@@ -12,7 +12,7 @@ use Rattle.justification.specs.Predicates.{question_refusal, liberal, strict}
 use Rattle.access.specs.Access.{eager, lazy}
 use Rattle.tickets.specs.Tickets.{ticket_refusal}
 use Rattle.loading.specs.HighestFormula.{too_high_19}
-use Rattle.history.specs.Book.{Call, add, remove, askEagerly, askLazily, check_ticket}
+use Rattle.history.specs.Book.{Call, add, remove, ask_eagerly, ask_lazily, check_ticket}
 use Rattle.replay.specs.Replay.{call, liberally, strictly, number_answer, answer_to}
 use Rattle.bundle.specs.Writing.{write_refusal, length_needed, written, buffer_after, measured}
 
@@ -29,8 +29,8 @@ each_call : (r : Record) → loadable r ≡ false → (c : Call) → answer_to r
 unfolding answer_to added removed eager lazy ticket_refusal question_refusal
 each_call r e (add l x y) = rw e refl
 each_call r e (remove l x y) = rw e refl
-each_call r e (askEagerly q) = rw e refl
-each_call r e (askLazily q) = rw e refl
+each_call r e (ask_eagerly q) = rw e refl
+each_call r e (ask_lazily q) = rw e refl
 each_call r e (check_ticket t) = rw e refl
 
 pub refused_by_all : (r : Record) → loadable r ≡ false → RefusedByAll r

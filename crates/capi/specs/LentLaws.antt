@@ -6,7 +6,8 @@ use Rattle.policy.specs.declared.Record.{Record}
 use Rattle.reading.specs.Loading.{load}
 use Rattle.tickets.specs.declared.Ticket.{Ticket}
 use Rattle.history.specs.Book.{Call, check_ticket, engine_after}
-use Rattle.history.specs.IndexAnew.{IndexAnew, index_anew}
+use Rattle.history.specs.IndexAnew.{IndexAnew}
+use Rattle.history.proofs.IndexAnew.{index_anew}
 use Rattle.replay.specs.Replay.{call, listed_call_at, buffer_after}
 use Rattle.replay.specs.ReplayLaws.{calls_before, tickets_leave}
 use Rattle.replay.specs.Parts.{Part, left_after_parts, parts_calls, parts_count, PointHolds}

@@ -10,7 +10,7 @@ use crate::packed;
 use policy::Record;
 
 // What loading answers by value: the number to return, and the record to leave.
-#[derive(Drop)]
+#[derive(Clone, Copy)]
 pub struct Left {
     pub value: u64,
     pub rules: Record,

@@ -1,6 +1,8 @@
 // The C interface: slices are a pointer and a length; a number and a value come back in one number, number · 2^32 + value.
 // The functions here keep nothing between calls; those of `lent` keep a record that the caller owns.
 
+#![tactic(auto)]
+
 ghost use Rattle.std.specs.Prelude.{◌≡◌};
 ghost use Rattle.reading.specs.Loading.{load};
 ghost use Rattle.capi.specs.Interface.{rewrite_value, rewrite_buffer, replay_value, replay_buffer};

@@ -1,5 +1,7 @@
 // The reflexive and transitive closure of a relation on at most `MOST_RELATED` things, and whether it holds a circle.
 
+#![tactic(auto)]
+
 ghost use Rattle.std.specs.Prelude.{◌≡◌, ◌↔◌, true, min};
 ghost use Rattle.common.specs.Limits.{most_related, most_pairs};
 ghost use Rattle.closure.specs.Closure.{On, pairs_of, Relates, Below, Star, Circle, Closes};

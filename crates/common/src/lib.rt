@@ -1,5 +1,7 @@
 // What every crate shares: the numbers of the documents' refusal table, and in specs/ the words of the specifications and laws about them.
 
+#![tactic(auto)]
+
 // Success.
 pub const ACCEPTED: u8 = 0;
 

@@ -3,6 +3,8 @@
 // set. The columns of a record and of its index of edges are lent, so that none is copied. A step passes over the edges of its label only:
 // forward in the edges' own order, backward in the order of the index's places.
 
+#![tactic(auto)]
+
 ghost use Rattle.std.specs.Prelude.{◌≡◌, true, false, cond, not, ◌≤◌, ◌<◌, eqb};
 ghost use Rattle.common.specs.Limits.{most_formulas};
 ghost use Rattle.common.specs.Lists.{at};

@@ -15,7 +15,7 @@ use Rattle.rows.specs.Op.{
   backward,
   keeping,
   in_slot,
-  atSlot,
+  at_slot,
   unknown,
   op_of,
 }
@@ -42,7 +42,7 @@ first_meaning c forward a b part here = leads c.edges 1 2 a (part b) here
 first_meaning c backward a b part here = leads c.edges 2 1 a (part b) here
 first_meaning c keeping a b part here = false
 first_meaning c in_slot a b part here = false
-first_meaning c atSlot a b part here = false
+first_meaning c at_slot a b part here = false
 first_meaning c unknown a b part here = false
 
 -- formula f, where it is below n; a formula at or above n is false

@@ -16,7 +16,7 @@ use Rattle.rows.specs.Op.{
   backward,
   keeping,
   in_slot,
-  atSlot,
+  at_slot,
   unknown,
   op_of,
 }
@@ -79,7 +79,7 @@ meaning c forward a b part here = leads c.edges 1 2 a (part c b) here
 meaning c backward a b part here = leads c.edges 2 1 a (part c b) here
 meaning c keeping a b part here = part (keep c a here) b here
 meaning c in_slot a b part here = true_of (slot c a) (λ v. eqb here v)
-meaning c atSlot a b part here = true_of (slot c a) (part c b)
+meaning c at_slot a b part here = true_of (slot c a) (part c b)
 meaning c unknown a b part here = false
 
 -- formula f, where it is below n; a formula at or above n is false

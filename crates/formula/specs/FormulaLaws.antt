@@ -18,7 +18,7 @@ use Rattle.rows.specs.Op.{
   backward,
   keeping,
   in_slot,
-  atSlot,
+  at_slot,
   unknown,
   op_of,
 }
@@ -66,7 +66,7 @@ module _ (es fs : List (List ℕ)) (same_set : (e : List ℕ) → edge_in es e �
   same_meaning p q h c backward a b here = same_any _ es fs same_set ∙ (λ j. leads fs 2 1 a (λ v. h c b v j) here)
   same_meaning p q h c keeping a b here = h (keep c a here) b here
   same_meaning p q h c in_slot a b here = refl
-  same_meaning p q h c atSlot a b here = same_of_slot (slot c a) (p (on_edges c es) b) (q (on_edges c fs) b) (h c b)
+  same_meaning p q h c at_slot a b here = same_of_slot (slot c a) (p (on_edges c es) b) (q (on_edges c fs) b) (h c b)
   same_meaning p q h c unknown a b here = refl
 
   -- of any formulas, in any context: the slots may hold what they will

@@ -22,7 +22,7 @@ use Rattle.rows.specs.Op.{
   backward,
   keeping,
   in_slot,
-  atSlot,
+  at_slot,
   unknown,
   op_of,
 }
@@ -82,7 +82,7 @@ module _ (ok : ℕ → Bool) where
   same_slots p h c ss backward a b here r t = λ j. leads c.edges 2 1 a (λ v. h c ss b v (one_part ok b t) j) here
   same_slots p h c ss keeping a b here r t = h (keep c a here) (keep (with_slots c ss) a here).slots b here (one_part ok b t)
   same_slots p h c ss in_slot a b here r t = absurd (false≢true r)
-  same_slots p h c ss atSlot a b here r t = absurd (false≢true r)
+  same_slots p h c ss at_slot a b here r t = absurd (false≢true r)
   same_slots p h c ss unknown a b here r t = refl
 
   -- without the slots
@@ -106,7 +106,7 @@ module _ (ok : ℕ → Bool) where
   same_first p q c h backward a b here r t = λ j. leads c.edges 2 1 a (λ v. h b v (one_part ok b t) j) here
   same_first p q c h keeping a b here r t = absurd (false≢true r)
   same_first p q c h in_slot a b here r t = absurd (false≢true r)
-  same_first p q c h atSlot a b here r t = absurd (false≢true r)
+  same_first p q c h at_slot a b here r t = absurd (false≢true r)
   same_first p q c h unknown a b here r t = refl
 
 -- two lists of slots with the same vertex put into slot a agree at k, if they agree there but for a
@@ -152,7 +152,7 @@ module _ (reads : ℕ → ℕ → Bool) where
         λ k e. kept_alike c.slots ss t.0 a (holding here) k (λ n. t.1 k (rw (ne_eqb a k n) e)),
       )
   same_read p h c ss in_slot a b here t = λ j. true_of (t.1 a (eq-eqb a a refl) j) (λ v. eqb here v)
-  same_read p h c ss atSlot a b here t =
+  same_read p h c ss at_slot a b here t =
       (λ j. true_of (t.1 a (or_left (eqb a a) (reads b a) (eq-eqb a a refl)) j) (p c b))
       ∙ same_of_slot (get_or ss a unset) (p c b) (p (with_slots c ss) b)
       (λ v. h c ss b v (t.0, λ k e. t.1 k (or_right (eqb a k) (reads b k) e)))

@@ -14,7 +14,7 @@ use Rattle.rows.specs.Op.{
   backward,
   keeping,
   in_slot,
-  atSlot,
+  at_slot,
   unknown,
   op_of,
 }
@@ -34,7 +34,7 @@ parts_of forward a b = b ∷ []
 parts_of backward a b = b ∷ []
 parts_of keeping a b = b ∷ []
 parts_of in_slot a b = []
-parts_of atSlot a b = b ∷ []
+parts_of at_slot a b = b ∷ []
 parts_of unknown a b = []
 
 -- the op of formula f, where f is below n, and those of the formulas that it uses all pass a test
@@ -58,7 +58,7 @@ reads_no_slot forward = true
 reads_no_slot backward = true
 reads_no_slot keeping = true
 reads_no_slot in_slot = false
-reads_no_slot atSlot = false
+reads_no_slot at_slot = false
 reads_no_slot unknown = true
 
 abbrev pub has_no_slot : Op → Bool
@@ -73,7 +73,7 @@ has_no_slot forward = true
 has_no_slot backward = true
 has_no_slot keeping = false
 has_no_slot in_slot = false
-has_no_slot atSlot = false
+has_no_slot at_slot = false
 has_no_slot unknown = true
 
 -- the formula (op, a, b) reads what slot k holds where it is evaluated: an op 9 on slot k hides that from its part.
@@ -90,7 +90,7 @@ reads_of forward a b part k = part b
 reads_of backward a b part k = part b
 reads_of keeping a b part k = not (eqb a k) && part b
 reads_of in_slot a b part k = eqb a k
-reads_of atSlot a b part k = eqb a k || part b
+reads_of at_slot a b part k = eqb a k || part b
 reads_of unknown a b part k = false
 
 -- formula f, where it is below n

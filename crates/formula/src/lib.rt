@@ -1,6 +1,8 @@
 // Formulas: what one is evaluated for, the slots that it reads, and where a formula without parts is true. The columns of a record are
 // lent, so that none is copied.
 
+#![tactic(auto)]
+
 ghost use Rattle.std.specs.Prelude.{◌≡◌, false, ◌&&◌, List, ℕ, ◌≤◌, ◌<◌, eqb};
 ghost use Rattle.common.specs.Limits.{most_users, most_formulas};
 ghost use Rattle.common.specs.Sets.{member};
@@ -18,7 +20,7 @@ const HAS_PARTS: u16 = 258;
 
 // What a formula is evaluated for, beside the columns: how many edges there are, the vertex in each slot, the roles that the
 // requestor holds, the object and the requestor.
-#[derive(Drop)]
+#[derive(Clone, Copy)]
 pub struct ContextNumbers {
     pub edge_count: usize,
     pub slots: [u16; SLOT_COUNT],

@@ -22,7 +22,7 @@ use Rattle.tickets.specs.Tickets.{set_refusal, after_question, ticket_refusal}
 -- a call's kind and its arguments other than the record
 pub data Call : Type 0 where
   add remove : ℕ → ℕ → ℕ → Call
-  askEagerly askLazily : Question → Call
+  ask_eagerly ask_lazily : Question → Call
   check_ticket : Ticket → Call
 
 -- what a call answers: its number, and the set (empty for an edit and a ticket)
@@ -93,15 +93,15 @@ check_refusal b book t =
 unfoldable pub book_after_call : Record → Book → Call → Book
 book_after_call b book (add l x y) = cond (eqb (add_refusal b book l x y) 0) ((l ∷ x ∷ y ∷ []) ∷ book) book
 book_after_call b book (remove l x y) = cond (eqb (remove_refusal b book l x y) 0) (those (λ e. not (same (l ∷ x ∷ y ∷ []) e)) book) book
-book_after_call b book (askEagerly q) = book
-book_after_call b book (askLazily q) = book
+book_after_call b book (ask_eagerly q) = book
+book_after_call b book (ask_lazily q) = book
 book_after_call b book (check_ticket t) = book
 
 unfoldable pub book_answer : Record → Book → Call → BookAnswer
 book_answer b book (add l x y) = plain (add_refusal b book l x y)
 book_answer b book (remove l x y) = plain (remove_refusal b book l x y)
-book_answer b book (askEagerly q) = ask b book q
-book_answer b book (askLazily q) = ask b book q
+book_answer b book (ask_eagerly q) = ask b book q
+book_answer b book (ask_lazily q) = ask b book q
 book_answer b book (check_ticket t) = plain (check_refusal b book t)
 
 -- the book after a list of calls
@@ -120,15 +120,15 @@ number_and_set a = record { number = a.number; set = a.set }
 unfoldable pub engine_leaves : Record → Call → Record
 engine_leaves r (add l x y) = (added r l x y).rules
 engine_leaves r (remove l x y) = (removed r l x y).rules
-engine_leaves r (askEagerly q) = (eager r q).rules
-engine_leaves r (askLazily q) = (lazy r q).rules
+engine_leaves r (ask_eagerly q) = (eager r q).rules
+engine_leaves r (ask_lazily q) = (lazy r q).rules
 engine_leaves r (check_ticket t) = r
 
 unfoldable pub engine_answer : Record → Call → BookAnswer
 engine_answer r (add l x y) = edit_number (added r l x y)
 engine_answer r (remove l x y) = edit_number (removed r l x y)
-engine_answer r (askEagerly q) = number_and_set (eager r q)
-engine_answer r (askLazily q) = number_and_set (lazy r q)
+engine_answer r (ask_eagerly q) = number_and_set (eager r q)
+engine_answer r (ask_lazily q) = number_and_set (lazy r q)
 engine_answer r (check_ticket t) = plain (ticket_refusal r t)
 
 unfoldable pub engine_after : Record → List Call → Record

@@ -1,36 +1,15 @@
 -- The crown table of document 01, (a) to (k), and the course example of tickets, each from a fresh load of the crown's bytes, computed.
-use Rattle.std.specs.Prelude.{ℕ, ◌≡◌, refl, true, false, List, [], ◌∷◌}
+use Rattle.std.specs.Prelude.{ℕ, ◌≡◌, true, false, List, [], ◌∷◌}
 use Rattle.common.specs.Refusals.{not_enabled, not_consistent, guard_not_met}
 use Rattle.policy.specs.declared.Record.{Record}
-use Rattle.policy.specs.Table.{changed, with_memo}
-use Rattle.policy.specs.Loadable.{table_loads, index_agrees, loadable}
 use Rattle.policy.specs.Edits.{removed}
-use Rattle.formula.specs.Formula.{meaning, true_below, holds_on, holds}
 use Rattle.justification.specs.declared.Question.{Question}
-use Rattle.justification.specs.Justification.{demarcation_has, have, meets, consistent, all_sets, candidates, least}
-use Rattle.justification.specs.Predicates.{question_refusal, is_enabled, liberal, strict}
-use Rattle.memo.specs.Memo.{evaluated}
-use Rattle.memo.specs.Walk.{evaluated_all, eagerly, tried, weighed, walk}
+use Rattle.justification.specs.Predicates.{liberal, strict}
 use Rattle.access.specs.declared.Answer.{Answer}
-use Rattle.memo.specs.Memo.{memo_for, newly}
-use Rattle.access.specs.Access.{answered, eager, lazy}
-use Rattle.tickets.specs.Tickets.{ticket_of, constraint_refusal, set_refusal, ticket_refusal}
+use Rattle.access.specs.Access.{eager, lazy}
+use Rattle.tickets.specs.Tickets.{ticket_of, ticket_refusal}
 use Rattle.reading.specs.Loading.{load}
-use Rattle.loading.specs.Examples.{computing}
 use Rattle.loading.specs.Crown.{crown}
-
--- what a proof by computation opens, beside what loading opens: of the record, of the grounds, of the questions
-unfoldable computing_record : Unit {0}
-unfolding computing changed with_memo table_loads index_agrees loadable removed question_refusal is_enabled
-computing_record = tt
-
-unfoldable computing_grounds : Unit {0}
-unfolding computing_record meaning true_below holds_on holds demarcation_has have meets consistent all_sets candidates least
-computing_grounds = tt
-
-unfoldable computing_table : Unit {0}
-unfolding computing_grounds liberal strict evaluated evaluated_all eagerly tried weighed walk memo_for newly answered eager lazy
-computing_table = tt
 
 -- a fresh load
 abbrev pub fresh : Record
@@ -58,12 +37,6 @@ pub record CrownTable : Type 0 where
   pub j : seen (lazy (removed fresh 1 0 1).rules (by 0 1)) ≡ 17 ∷ 0 ∷ 1 ∷ []
   pub k : seen (lazy fresh (by 0 0)) ≡ 16 ∷ 0 ∷ 0 ∷ []
 
--- THE CROWN TABLE
-pub crown_table : CrownTable
-unfolding computing_table
-crown_table =
-    record { loads = refl; a = refl; b = refl; c = refl; d = refl; e = refl; f = refl; g = refl; h = refl; i = refl; j = refl; k = refl }
-
 -- tickets for method 0 about the crown, by Ana (1) and Ben (2); the set {1, 2} is 6, {1} is 2, {0, 1} is 3, {2} is 4
 abbrev pub ticket_by : ℕ → ℕ → ℕ
 ticket_by requestor set = ticket_refusal fresh (ticket_of (by 0 requestor) set)
@@ -75,8 +48,3 @@ pub record CrownTickets : Type 0 where
   pub ana_unmet : ticket_by 1 4 ≡ guard_not_met
   pub ben_one : ticket_by 2 2 ≡ not_consistent
   pub ben_both : ticket_by 2 6 ≡ not_enabled
-
--- THE COURSE EXAMPLE of tickets
-pub crown_tickets : CrownTickets
-unfolding computing_grounds constraint_refusal set_refusal ticket_refusal
-crown_tickets = record { ana_both = refl; ana_one = refl; ana_excluded = refl; ana_unmet = refl; ben_one = refl; ben_both = refl }

@@ -19,7 +19,7 @@ use Rattle.access.specs.declared.Answer.{Answer}
 use Rattle.access.specs.Access.{eager, lazy}
 use Rattle.tickets.specs.declared.Ticket.{Ticket}
 use Rattle.tickets.specs.Tickets.{ticket_of, ticket_refusal, SetNumber}
-use Rattle.history.specs.Book.{Call, add, remove, askEagerly, askLazily, check_ticket, Book, first_book, holds_edge, enabled_in}
+use Rattle.history.specs.Book.{Call, add, remove, ask_eagerly, ask_lazily, check_ticket, Book, first_book, holds_edge, enabled_in}
 use Rattle.history.specs.Book.{book_after_call, engine_leaves}
 
 -- the book changes: some edge is in the one and not in the other
@@ -93,8 +93,8 @@ abbrev pub CallHolds : Record → Book → Record → Call → Type 0
 CallHolds b book r (add l x y) = EditHolds book (book_after_call b book (add l x y)) (added r l x y).number r (added r l x y).rules
 CallHolds b book r (remove l x y) =
     EditHolds book (book_after_call b book (remove l x y)) (removed r l x y).number r (removed r l x y).rules
-CallHolds b book r (askEagerly q) = QuestionHolds b book q r (eager r q) × BothForms r q × GrantHolds q r (eager r q)
-CallHolds b book r (askLazily q) = QuestionHolds b book q r (lazy r q) × BothForms r q × GrantHolds q r (lazy r q)
+CallHolds b book r (ask_eagerly q) = QuestionHolds b book q r (eager r q) × BothForms r q × GrantHolds q r (eager r q)
+CallHolds b book r (ask_lazily q) = QuestionHolds b book q r (lazy r q) × BothForms r q × GrantHolds q r (lazy r q)
 CallHolds b book r (check_ticket t) = TicketHolds b book t r (ticket_refusal r t) (engine_leaves r (check_ticket t))
 
 -- of a whole list: of its first call, and of the others on the record that it left, beside the book after it

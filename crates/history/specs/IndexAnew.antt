@@ -1,15 +1,8 @@
 -- Request 2026-04: "From a loaded bundle, after every list of edits the index is the one that building anew would give."
-use Rattle.std.specs.Prelude.{ℕ, ◌≡◌, List}
-use Rattle.std.proofs.Common.{sym, subst}
+use Rattle.std.specs.Prelude.{◌≡◌}
 use Rattle.edge_index.specs.Index.{Indexes}
-use Rattle.edge_index.specs.IndexLaws.{indexes_of}
 use Rattle.policy.specs.declared.Record.{Record}
 use Rattle.policy.specs.Table.{edge, rows, index_of, indexed}
-use Rattle.policy.specs.LoadableLaws.{own_index}
-use Rattle.policy.specs.RecordIndexLaws.{loadable_indexed, built_anew}
-use Rattle.reading.specs.Loading.{load}
-use Rattle.history.specs.Book.{Call, first_book, engine_after}
-use Rattle.history.specs.Theorem.{start, list_agrees}
 
 -- the record's index is the one of its edges: as `index_of` builds it from their list, as loading builds it into a record, and by what holds
 -- of it (each label's first place and number; the places ordered by label, then to, then from; unused places zero)
@@ -17,16 +10,3 @@ pub record IndexAnew (r : Record) : Type 0 where
   pub built : r.index ≡ index_of (rows edge r)
   pub loaded : indexed r ≡ r
   pub indexes : Indexes r.edge_count r.edge_labels r.edge_sources r.edge_targets r.index
-
--- THE THEOREM, of every text that loads and every list of calls: edits, and questions and tickets between them, refused ones included
-pub index_anew : (text : List ℕ) → (load text).number ≡ 0 → (calls : List Call) → IndexAnew (engine_after (load text).rules calls)
-index_anew text e calls =
-    let r = engine_after (load text).rules calls in
-    let loads = (list_agrees (load text).rules calls (first_book text) (load text).rules (start text e)).loads in
-    let i = loadable_indexed r loads in
-    record {
-      built = own_index r loads;
-      loaded = built_anew r loads;
-      indexes =
-          subst (Indexes r.edge_count r.edge_labels r.edge_sources r.edge_targets) (sym i.index) (indexes_of i.rises);
-    }

@@ -84,9 +84,9 @@ unfoldable pub all_sets : (ℕ → ℕ) → ℕ → List ℕ
 all_sets count n = by_size count n (suc n)
 
 -- the first element that passes
-abbrev pub first_of : (ℕ → Bool) → List ℕ → Option ℕ
-first_of p [] = none
-first_of p (x ∷ l) = cond (p x) (some x) (first_of p l)
+abbrev pub first_among : (ℕ → Bool) → List ℕ → Option ℕ
+first_among p [] = none
+first_among p (x ∷ l) = cond (p x) (some x) (first_among p l)
 
 -- the consistent sets that meet the guard of m, from all principals, least first
 unfoldable pub candidates : Record → ℕ → List ℕ
@@ -94,4 +94,4 @@ candidates r m = those (λ c. consistent r c && meets r m (members r c)) (all_se
 
 -- the least of them whose members all pass
 unfoldable pub least : Record → ℕ → (ℕ → Bool) → Option ℕ
-least r m passes = first_of (λ c. every passes (members r c)) (candidates r m)
+least r m passes = first_among (λ c. every passes (members r c)) (candidates r m)

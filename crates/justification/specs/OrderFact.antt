@@ -1,4 +1,4 @@
--- The order fact: of the sets that pass, `first_of` over `all_sets` finds the one with fewest members; of those, with fewest role principals;
+-- The order fact: of the sets that pass, `first_among` over `all_sets` finds the one with fewest members; of those, with fewest role principals;
 -- and of those, with the smallest number.
 use Rattle.std.specs.Prelude.{ℕ, zero, suc, ◌+◌, ◌-◌, ◌*◌, ◌/◌, ◌%◌, ◌^◌, ◌≤◌, ◌<◌, ◌≡◌, refl, ◌⊎◌, Bool, true, false, cond, ◌&&◌, List, [], ◌∷◌, ◌++◌, map, eqb}
 use Rattle.std.proofs.Common.{sym, ◌∙◌, ap, subst, inl, inr, ⊎_elim, arith, add_comm, eqb-true, eq-eqb, pow_pos}
@@ -14,11 +14,11 @@ use Rattle.policy.specs.declared.Record.{Record}
 use Rattle.search.specs.Search.{Before}
 use Rattle.search.specs.Search.Before.{by_members, by_role_count_lem, by_number}
 use Rattle.search.specs.SearchLaws.{before_antisym}
-use Rattle.justification.specs.Justification.{members, meets, consistent, role_count, sets, by_role_count, by_size, all_sets, first_of, candidates, least}
+use Rattle.justification.specs.Justification.{members, meets, consistent, role_count, sets, by_role_count, by_size, all_sets, first_among, candidates, least}
 use Rattle.justification.specs.RoleCountLaws.{role_few}
 use Rattle.justification.specs.Order.{IsLeast}
 
--- ---- `first_of` of a list in two parts, of a mapped list, of a list that was sifted
+-- ---- `first_among` of a list in two parts, of a mapped list, of a list that was sifted
 abbrev or_else : Option ℕ → Option ℕ → Option ℕ
 or_else none o = o
 or_else (some c) o = some c
@@ -27,30 +27,30 @@ abbrev mapped : (ℕ → ℕ) → Option ℕ → Option ℕ
 mapped f none = none
 mapped f (some c) = some (f c)
 
-first_append : (p : ℕ → Bool) (l m : List ℕ) → first_of p (l ++ m) ≡ or_else (first_of p l) (first_of p m)
+first_append : (p : ℕ → Bool) (l m : List ℕ) → first_among p (l ++ m) ≡ or_else (first_among p l) (first_among p m)
 first_append p [] m = refl
 first_append p (x ∷ l) m = go (p x) (first_append p l m)
   where
-    go : (b : Bool) → first_of p (l ++ m) ≡ or_else (first_of p l) (first_of p m)
-        → cond b (some x) (first_of p (l ++ m)) ≡ or_else (cond b (some x) (first_of p l)) (first_of p m)
+    go : (b : Bool) → first_among p (l ++ m) ≡ or_else (first_among p l) (first_among p m)
+        → cond b (some x) (first_among p (l ++ m)) ≡ or_else (cond b (some x) (first_among p l)) (first_among p m)
     go true e = refl
     go false e = e
 
-first_map : (p : ℕ → Bool) (f : ℕ → ℕ) (l : List ℕ) → first_of p (map f l) ≡ mapped f (first_of (λ x. p (f x)) l)
+first_map : (p : ℕ → Bool) (f : ℕ → ℕ) (l : List ℕ) → first_among p (map f l) ≡ mapped f (first_among (λ x. p (f x)) l)
 first_map p f [] = refl
 first_map p f (x ∷ l) = go (p (f x)) (first_map p f l)
   where
-    go : (b : Bool) → first_of p (map f l) ≡ mapped f (first_of (λ y. p (f y)) l)
-        → cond b (some (f x)) (first_of p (map f l)) ≡ mapped f (cond b (some x) (first_of (λ y. p (f y)) l))
+    go : (b : Bool) → first_among p (map f l) ≡ mapped f (first_among (λ y. p (f y)) l)
+        → cond b (some (f x)) (first_among p (map f l)) ≡ mapped f (cond b (some x) (first_among (λ y. p (f y)) l))
     go true e = refl
     go false e = e
 
-pub first_those : (q p : ℕ → Bool) (l : List ℕ) → first_of q (those p l) ≡ first_of (λ x. p x && q x) l
+pub first_those : (q p : ℕ → Bool) (l : List ℕ) → first_among q (those p l) ≡ first_among (λ x. p x && q x) l
 first_those q p [] = refl
 first_those q p (x ∷ l) = go (p x) (first_those q p l)
   where
-    go : (b : Bool) → first_of q (those p l) ≡ first_of (λ y. p y && q y) l
-        → first_of q (cond b (x ∷ those p l) (those p l)) ≡ cond (b && q x) (some x) (first_of (λ y. p y && q y) l)
+    go : (b : Bool) → first_among q (those p l) ≡ first_among (λ y. p y && q y) l
+        → first_among q (cond b (x ∷ those p l) (those p l)) ≡ cond (b && q x) (some x) (first_among (λ y. p y && q y) l)
     go true e = ap (cond (q x) (some x)) e
     go false e = e
 
@@ -105,15 +105,15 @@ both n k p none none f g = λ y l s t. ⊎_elim
     g h.0 h.2 (omega arith) (subst (λ (z : ℕ). p z ≡ true) e t))
     (split n y l)
 
-of_size : (n k : ℕ) (p : ℕ → Bool) → LeastOf n k p (first_of p (sets n k))
+of_size : (n k : ℕ) (p : ℕ → Bool) → LeastOf n k p (first_among p (sets n k))
 of_size zero zero p = alone 0 p (p 0) refl
 of_size zero (suc k) p = λ y l o t. let e : y ≡ 0 = omega arith in let z = subst (λ (x : ℕ). ones x ≡ suc k) e o in omega (arith, ones_zero)
 of_size (suc n) zero p = alone (suc n) p (p 0) refl
 of_size (suc n) (suc k) p =
     subst (LeastOf (suc n) (suc k) p)
     (sym (first_append p (sets n (suc k)) (map (λ c. c + 2 ^ n) (sets n k))
-    ∙ ap (or_else (first_of p (sets n (suc k)))) (first_map p (λ c. c + 2 ^ n) (sets n k))))
-    (both n k p (first_of p (sets n (suc k))) (first_of (λ x. p (x + 2 ^ n)) (sets n k)) (of_size n (suc k) p)
+    ∙ ap (or_else (first_among p (sets n (suc k)))) (first_map p (λ c. c + 2 ^ n) (sets n k))))
+    (both n k p (first_among p (sets n (suc k))) (first_among (λ x. p (x + 2 ^ n)) (sets n k)) (of_size n (suc k) p)
     (of_size n k (λ x. p (x + 2 ^ n))))
 
 smaller : (a k : ℕ) → a < suc k → (a < k) ⊎ (a ≡ k)
@@ -165,13 +165,13 @@ module _ (count : ℕ → ℕ) where
       (λ h. g y l o (has_both j p y h t))
       (smaller (count y) j u)
 
-  of_role_count : (n k j : ℕ) (p : ℕ → Bool) → LeastByRoleCount n k j p (first_of p (by_role_count count (sets n k) j))
+  of_role_count : (n k j : ℕ) (p : ℕ → Bool) → LeastByRoleCount n k j p (first_among p (by_role_count count (sets n k) j))
   of_role_count n k zero p = λ y l o u t. omega arith
   of_role_count n k (suc j) p =
       subst (LeastByRoleCount n k (suc j) p)
       (sym (first_append p (by_role_count count (sets n k) j) (those (λ c. eqb (count c) j) (sets n k))
-      ∙ ap (or_else (first_of p (by_role_count count (sets n k) j))) (first_those p (λ c. eqb (count c) j) (sets n k))))
-      (next_role_count n k j p (first_of p (by_role_count count (sets n k) j)) (first_of (having j p) (sets n k)) (of_role_count n k j p)
+      ∙ ap (or_else (first_among p (by_role_count count (sets n k) j))) (first_those p (λ c. eqb (count c) j) (sets n k))))
+      (next_role_count n k j p (first_among p (by_role_count count (sets n k) j)) (first_among (having j p) (sets n k)) (of_role_count n k j p)
       (of_size n k (having j p)))
 
   -- ---- the sets of every size below k
@@ -197,20 +197,20 @@ module _ (count : ℕ → ℕ) where
         )
     next k p none none f g = λ y l o t. ⊎_elim (λ h. f y l h t) (λ h. g y l h (omega (arith, few y l)) t) (smaller (ones y) k o)
 
-    up_to : (k : ℕ) (p : ℕ → Bool) → LeastUpTo n k p (first_of p (by_size count n k))
+    up_to : (k : ℕ) (p : ℕ → Bool) → LeastUpTo n k p (first_among p (by_size count n k))
     up_to zero p = λ y l o t. omega arith
     up_to (suc k) p =
         subst (LeastUpTo n (suc k) p) (sym (first_append p (by_size count n k) (by_role_count count (sets n k) (suc k))))
-        (next k p (first_of p (by_size count n k)) (first_of p (by_role_count count (sets n k) (suc k))) (up_to k p) (of_role_count n k (suc k) p))
+        (next k p (first_among p (by_size count n k)) (first_among p (by_role_count count (sets n k) (suc k))) (up_to k p) (of_role_count n k (suc k) p))
 
     whole : (p : ℕ → Bool) (o : Option ℕ) → LeastUpTo n (suc n) p o → IsLeast count n p o
     whole p none f = λ y l t. let h = ones-le n y l in f y l (omega arith) t
     whole p (some c) f = (f.0, f.2, λ y l t. let h = ones-le n y l in f.3 y l (omega arith) t)
 
     -- THE ORDER FACT
-    pub first_is_least : (p : ℕ → Bool) → IsLeast count n p (first_of p (all_sets count n))
+    pub first_is_least : (p : ℕ → Bool) → IsLeast count n p (first_among p (all_sets count n))
     unfolding all_sets
-    first_is_least p = whole p (first_of p (by_size count n (suc n))) (up_to (suc n) p)
+    first_is_least p = whole p (first_among p (by_size count n (suc n))) (up_to (suc n) p)
 
   -- ---- there is only one least
 

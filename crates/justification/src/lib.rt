@@ -1,5 +1,7 @@
 // Grounds and guards: what each principal excludes, needs and gives, and whether it is a role principal; who may put a question.
 
+#![tactic(auto)]
+
 ghost use Rattle.std.specs.Prelude.{◌≡◌, true, false, cond, ◌↔◌, ◌⊎◌, [], ℕ, ◌^◌, ◌≤◌, ◌<◌, get_or};
 ghost use Rattle.std.specs.Int.Bits.{bit_or};
 ghost use Rattle.common.specs.Limits.{most_users, most_formulas, most_demarcations, most_principals, most_exclusions, privilege_count};
@@ -24,7 +26,7 @@ use search::Masks;
 const ROLE_OP: u8 = 3;
 
 // A question names method, object, requestor.
-#[derive(Drop)]
+#[derive(Clone, Copy)]
 pub struct Question {
     pub method: u8,
     pub object: u8,
@@ -32,7 +34,7 @@ pub struct Question {
 }
 
 // What liberal and strict answer: document 01's number, and yes or no (for a refusal, no).
-#[derive(Drop)]
+#[derive(Clone, Copy)]
 pub struct Verdict {
     pub number: u8,
     pub yes: bool,

@@ -1,5 +1,7 @@
 // One line of a bundle, for a reader of lines of one kind: what stands at an offset, its numbers, what refuses them, the cursor past it.
 
+#![tactic(auto)]
+
 ghost use Rattle.std.specs.Prelude.{◌≡◌, ◌+◌, ◌*◌, ◌≤◌, ◌<◌, drop};
 ghost use Rattle.common.specs.Lists.{at};
 ghost use Rattle.common.specs.Limits.{line_room};
@@ -18,7 +20,7 @@ use octets::{Line, SizedLine};
 // ---- what stands at an offset
 
 // What stands at an offset, for a reader of lines of one kind.
-#[derive(Drop)]
+#[derive(Clone, Copy)]
 pub enum Next {
     // The text's end, or a line of another kind.
     Other,
@@ -111,7 +113,7 @@ pub fn number_at(octets: &[u8; LINE_ROOM], k: usize, n: usize) -> u64
 
 // The numbers that a line's body may hold: its first three octets, the second and third as one number (a user's roles),
 // and its number of eight octets. What the kind has no use for is whatever costs least.
-#[derive(Drop)]
+#[derive(Clone, Copy)]
 pub struct Row {
     pub a: u8,
     pub b: u8,
@@ -153,7 +155,7 @@ fn row_at(octets: &[u8; LINE_ROOM], size: usize) -> Row
 
 // What a line is held to: the row of its kind's table that it would fill, the least key that may stand there,
 // and how many objects, formulas, demarcations and principals there are.
-#[derive(Drop)]
+#[derive(Clone, Copy)]
 pub struct Bounds {
     pub row: usize,
     pub least_key: u32,
@@ -215,7 +217,7 @@ fn after_row(kind: u8, row: Row) -> u32
 
 // How far loading has come: the number that refuses the last line read (0 for none), the offset at which the next one starts,
 // how many lines were read, the last taken one's kind, and the plain sum of their octets.
-#[derive(Drop)]
+#[derive(Clone, Copy)]
 pub struct Cursor {
     pub number: u8,
     pub offset: usize,
@@ -239,7 +241,7 @@ pub fn past(cursor: Cursor, kind: u8, next: usize, total: usize) -> Cursor
 }
 
 // What a reader of the lines of one kind makes of the line at its cursor.
-#[derive(Drop)]
+#[derive(Clone, Copy)]
 pub enum Judged {
     // The text's end, or a line of another kind.
     Other,

@@ -1,5 +1,7 @@
 // Loading a bundle: the lines of every kind, one kind after another, and the end line.
 
+#![tactic(auto)]
+
 ghost use Rattle.std.specs.Prelude.{◌≡◌, ◌+◌, ◌≤◌};
 ghost use Rattle.common.specs.Limits.{most_lines};
 ghost use Rattle.policy.specs.Table.{end, indexed};

@@ -6,7 +6,7 @@ use Rattle.std.proofs.Math.Option.{Option, none, some}
 use Rattle.std.proofs.Math.Decide.{ℕ_discrete}
 use Rattle.common.specs.Lists.{any, every, those, below}
 use Rattle.common.specs.BoolLaws.{and_cases, and_both, or_cases, or_left, or_right}
-use Rattle.justification.specs.Justification.{first_of}
+use Rattle.justification.specs.Justification.{first_among}
 
 -- P holds of every number of the list
 abbrev pub All : (ℕ → Type 0) → List ℕ → Type 0
@@ -53,20 +53,20 @@ pub every_ext : (p q : ℕ → Bool) (l : List ℕ) → All (λ x. p x ≡ q x) 
 every_ext p q [] h = refl
 every_ext p q (x ∷ l) h = rw (h.0, every_ext p q l h.1)
 
-pub first_ext : (p q : ℕ → Bool) (l : List ℕ) → ((x : ℕ) → p x ≡ q x) → first_of p l ≡ first_of q l
+pub first_ext : (p q : ℕ → Bool) (l : List ℕ) → ((x : ℕ) → p x ≡ q x) → first_among p l ≡ first_among q l
 first_ext p q [] h = refl
 first_ext p q (x ∷ l) h = rw (h x, first_ext p q l h)
 
--- what `first_of` finds passes
+-- what `first_among` finds passes
 abbrev pub Passing : (ℕ → Bool) → Option ℕ → Type 0
 Passing p none = Unit {0}
 Passing p (some c) = p c ≡ true
 
-pub first_passes : (p : ℕ → Bool) (l : List ℕ) → Passing p (first_of p l)
+pub first_passes : (p : ℕ → Bool) (l : List ℕ) → Passing p (first_among p l)
 first_passes p [] = tt
 first_passes p (x ∷ l) = go (p x) refl (first_passes p l)
   where
-    go : (b : Bool) → p x ≡ b → Passing p (first_of p l) → Passing p (cond b (some x) (first_of p l))
+    go : (b : Bool) → p x ≡ b → Passing p (first_among p l) → Passing p (cond b (some x) (first_among p l))
     go true e h = e
     go false e h = h
 

@@ -16,7 +16,7 @@ use Rattle.common.specs.BoolLaws.{and_both, and_false, or_left, or_right}
 use Rattle.common.specs.Sets.{member}
 use Rattle.policy.specs.declared.Record.{Record}
 use Rattle.policy.specs.declared.Memo.{Memo}
-use Rattle.justification.specs.Justification.{members, first_of, candidates, least}
+use Rattle.justification.specs.Justification.{members, first_among, candidates, least}
 use Rattle.memo.specs.Memo.{known, value, evaluated}
 use Rattle.memo.specs.AllLaws.{All, all_those, all_of_lem, all_map, all_append, all_below, below_all, every_ext, first_ext, Passing}
 use Rattle.memo.specs.AllLaws.{first_passes, every_not, any_map, any_part, any_both, lacking, lacking_length, fewer}
@@ -47,7 +47,7 @@ abbrev over : Record → Memo → ℕ → Bool
 over r m c = any (known_false r m) (members r c)
 
 pub search_free : (r : Record) (k : ℕ) (m : Memo)
-    → least r k (λ p. not (known_false r m p)) ≡ first_of (λ c. not (any (known_false r m) (members r c))) (candidates r k)
+    → least r k (λ p. not (known_false r m p)) ≡ first_among (λ c. not (any (known_false r m) (members r c))) (candidates r k)
 unfolding least
 search_free r k m =
     first_ext (λ c. every (λ p. not (known_false r m p)) (members r c)) (λ c. not (over r m c)) (candidates r k)
@@ -193,15 +193,15 @@ module _ (truth : ℕ → Bool) (r : Record) where
   -- ---- the walk
 
   -- the walk finds the first candidate whose members are all enabled
-  walks : (cs : List ℕ) (m : Memo) → chosen (walk truth r m cs) ≡ first_of (λ c. passes m (members r c)) cs
+  walks : (cs : List ℕ) (m : Memo) → chosen (walk truth r m cs) ≡ first_among (λ c. passes m (members r c)) cs
   unfolding walk
   walks [] m = refl
   walks (c ∷ cs) m = go (weighed truth r m (members r c)) (weighs m c) (walks cs)
     where
       go : (w : Weighed) → Weighs m (members r c) w
-          → ((n : Memo) → chosen (walk truth r n cs) ≡ first_of (λ d. passes n (members r d)) cs)
+          → ((n : Memo) → chosen (walk truth r n cs) ≡ first_among (λ d. passes n (members r d)) cs)
           → chosen (after_weighing c w (λ after. walk truth r after cs))
-          ≡ cond (passes m (members r c)) (some c) (first_of (λ d. passes m (members r d)) cs)
+          ≡ cond (passes m (members r c)) (some c) (first_among (λ d. passes m (members r d)) cs)
       go (survives n) k ih = rw k.0 refl
       go (ends n) k ih =
           rw k.0
@@ -224,7 +224,7 @@ module _ (truth : ℕ → Bool) (r : Record) where
       → chosen (eagerly r k (evaluated_all truth r m (below r.principal_count))) ≡ chosen (walk truth r m (candidates r k))
   unfolding eagerly least
   agree k m =
-      chosen_outcome after (first_of (λ c. every (λ p. value after (formula_of r p)) (members r c)) (candidates r k))
+      chosen_outcome after (first_among (λ c. every (λ p. value after (formula_of r p)) (members r c)) (candidates r k))
       ∙ first_ext (λ c. every (λ p. value after (formula_of r p)) (members r c)) (λ c. passes m (members r c)) (candidates r k)
       (λ c. every_ext (λ p. value after (formula_of r p)) (λ p. view truth m (formula_of r p)) (members r c)
       (all_those (Valued m after) (λ p. member p c) (below r.principal_count) (eager_values m)))
@@ -293,7 +293,7 @@ module _ (truth : ℕ → Bool) (r : Record) where
     -- after candidates ds that are passed over, the walk tries the first free one of cs; if that ends, it is as good to walk over
     -- all of them again
     again : (ds cs : List ℕ) (m : Memo) → MemoLengths m → All (λ d. over r m d ≡ true) ds
-        → walk truth r m cs ≡ try_next truth r m (first_of (λ c. not (over r m c)) cs) (λ after. walk truth r after (ds ++ cs))
+        → walk truth r m cs ≡ try_next truth r m (first_among (λ c. not (over r m c)) cs) (λ after. walk truth r after (ds ++ cs))
     unfolding walk weighed
     again ds [] m h a = refl
     again ds (c ∷ cs) m h a = go (over r m c) refl (again (ds ++ (c ∷ [])) cs m h)
@@ -301,12 +301,12 @@ module _ (truth : ℕ → Bool) (r : Record) where
         go : (b : Bool) → over r m c ≡ b
             → (All (λ d. over r m d ≡ true) (ds ++ (c ∷ []))
             → walk truth r m cs
-            ≡ try_next truth r m (first_of (λ d. not (over r m d)) cs) (λ after. walk truth r after ((ds ++ (c ∷ [])) ++ cs)))
+            ≡ try_next truth r m (first_among (λ d. not (over r m d)) cs) (λ after. walk truth r after ((ds ++ (c ∷ [])) ++ cs)))
             → after_weighing c (cond b (ends m) (tried truth r m (members r c))) (λ after. walk truth r after cs)
-            ≡ try_next truth r m (cond (not b) (some c) (first_of (λ d. not (over r m d)) cs)) (λ after. walk truth r after (ds ++ (c ∷ cs)))
+            ≡ try_next truth r m (cond (not b) (some c) (first_among (λ d. not (over r m d)) cs)) (λ after. walk truth r after (ds ++ (c ∷ cs)))
         go true e ih =
             ih (all_append (λ d. over r m d ≡ true) ds (c ∷ []) a (e, tt))
-            ∙ ap (λ (l : List ℕ). try_next truth r m (first_of (λ d. not (over r m d)) cs) (λ after. walk truth r after l))
+            ∙ ap (λ (l : List ℕ). try_next truth r m (first_among (λ d. not (over r m d)) cs) (λ after. walk truth r after l))
             (append_assoc ds (c ∷ []) cs)
         go false e ih =
             then c m h (λ after. walk truth r after cs) (λ after. walk truth r after (ds ++ (c ∷ cs))) (λ n i o s.

@@ -1,5 +1,7 @@
 // The memo of a record, and the steps of the two questions on it: what is evaluated and entered, member by member or all at once.
 
+#![tactic(auto)]
+
 ghost use Rattle.std.specs.Prelude.{◌≡◌, not, cond, ◌&&◌, ◌≤◌, ◌<◌};
 ghost use Rattle.common.specs.Limits.{most_formulas};
 ghost use Rattle.common.specs.Lists.{at, below};
@@ -20,7 +22,7 @@ use justification::Question;
 use policy::Memo;
 
 // What weighing a candidate came to: whether all its members are enabled, and the memo as it then is.
-#[derive(Drop)]
+#[derive(Clone, Copy)]
 pub struct Tried {
     pub survives: bool,
     pub memo: Memo,

@@ -131,6 +131,7 @@ pairs_first none = tt
 pairs_first (line a w) = a.are
 
 caught : {t t' : List ℕ} → Whole t → OneAltered t t' → Refused t'
+caught {t' = t'} none o = elim o [ ]
 caught {t' = t'} (line a w) o =
     ⊎_elim
     (λ h. refusal h (frame_judged t'))

@@ -1,5 +1,7 @@
 // One line of the format: pairs of digits 0-9 and A-F, each pair an octet, ended by one byte 0A.
 
+#![tactic(auto)]
+
 ghost use Rattle.std.specs.Prelude.{◌≡◌, ◌+◌, ◌<◌, length, drop};
 ghost use Rattle.octets.specs.Line.{digit_value, frame};
 ghost use Rattle.octets.specs.Line as line;
@@ -14,7 +16,7 @@ use common::{LINE_ROOM, WRONG_CHARACTERS, WRONG_LENGTH, WRONG_SUM};
 use digits::{DIGIT_VALUES, NO_DIGIT};
 
 // What the line at an offset of a text is.
-#[derive(Drop)]
+#[derive(Clone, Copy)]
 pub enum Line {
     // Refused with document 01's number 1, 2 or 3.
     Refused(u8),
@@ -110,7 +112,7 @@ pub fn read_line(text: &[u8], offset: usize) -> Line
 }
 
 // What a line of a size that its reader asks for is.
-#[derive(Drop)]
+#[derive(Clone, Copy)]
 pub enum SizedLine {
     // No such line stands there.
     Other,

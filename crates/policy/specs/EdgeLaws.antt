@@ -80,7 +80,8 @@ module _ (n l x y : ℕ) where
   rising_parts : {least : ℕ} (es : List (List ℕ)) → Rising n least (es ++ ((l ∷ x ∷ y ∷ []) ∷ []))
       → Rising n least es × (after least es ≤ edge_key l x y) × (edge_in_range n l x y ≡ true)
   rising_parts [] (more h r none) = (none, h, r)
-  rising_parts (e ∷ es) (more k s t) = let p = rising_parts es t in (more k s p.0, p.1, p.2)
+  rising_parts {least = least} (_ ∷ es) (more {l = l'} {x = x'} {y = y'} k s t) =
+      let p = rising_parts {least = edge_key l' x' y' + 1} es t in (more k s p.0, p.1, p.2)
 
 -- ---- the edges of a table that loads
 

@@ -1,5 +1,7 @@
 // The policy record of document 01, the test whether some bundle loads to it, and the edits of its edges.
 
+#![tactic(auto)]
+
 ghost use Rattle.std.specs.Prelude.{◌≡◌};
 ghost use Rattle.policy.specs.Table as table;
 
@@ -16,7 +18,7 @@ pub mod loadable;
 
 // For one pair (object, requestor): which formulas have been evaluated, and what they came to.
 #[repr(C)]
-#[derive(Drop)]
+#[derive(Clone, Copy)]
 pub struct Memo {
     pub object: u8,
     pub requestor: u8,
@@ -27,7 +29,7 @@ pub struct Memo {
 // The rules of a bundle. Every kind of line is a table: a count, and a column for each number of the line's body.
 // Unused places are zero in a record that was loaded; one built by hand may hold anything.
 #[repr(C)]
-#[derive(Drop)]
+#[derive(Clone, Copy)]
 pub struct Record {
     // Objects are 0 to objects - 1.
     pub objects: u8,
@@ -75,7 +77,7 @@ pub struct Record {
 }
 
 // What an edit answers: document 01's number, and the record.
-#[derive(Drop)]
+#[derive(Clone, Copy)]
 pub struct Edited {
     pub number: u8,
     pub rules: Record,

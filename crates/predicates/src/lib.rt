@@ -1,5 +1,7 @@
 // The predicates liberal and strict, and the enabled principals of a record, all evaluated afresh.
 
+#![tactic(auto)]
+
 ghost use Rattle.std.specs.Prelude.{◌≡◌, true, ℕ, ◌≤◌};
 ghost use Rattle.common.specs.Limits.{most_principals};
 ghost use Rattle.common.specs.Lists.{at};

@@ -1,5 +1,7 @@
 // Reading a bundle: the first line, and one reader for the lines of any kind that has a table.
 
+#![tactic(auto)]
+
 ghost use Rattle.std.specs.Prelude.{◌≡◌, ◌≤◌, ◌<◌, length};
 ghost use Rattle.common.specs.Limits.{most_lines};
 ghost use Rattle.policy.specs.Table.{kind_of};
@@ -10,7 +12,7 @@ use lines::{Bounds, Cursor, Judged, Next};
 use policy::Record;
 
 // What loading answers: document 01's number, the line (0 for success), and the record, blank with every refusal.
-#[derive(Drop)]
+#[derive(Clone, Copy)]
 pub struct Loaded {
     pub number: u8,
     pub line: usize,
@@ -18,7 +20,7 @@ pub struct Loaded {
 }
 
 // How far loading has come, and what the lines read so far say.
-#[derive(Drop)]
+#[derive(Clone, Copy)]
 pub struct Stage {
     pub cursor: Cursor,
     pub rules: Record,

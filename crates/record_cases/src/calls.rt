@@ -8,7 +8,7 @@ use record_columns::same_record;
 use tickets::Ticket;
 
 // A command of the script: the character that opens it, the octets after that, and the number that a and b make.
-#[derive(Drop)]
+#[derive(Clone, Copy)]
 pub struct Command {
     pub opening: u8,
     pub code: u8,
@@ -21,7 +21,7 @@ pub struct Command {
 // What the last call said: its number, its value (the set, 1 for yes, the length written) and its evaluations, and of the record that it
 // handed back the count of edges and the memo. Then whether each call since the last edge was added has handed the record back as it was,
 // given nothing, and said 19.
-#[derive(Drop)]
+#[derive(Clone, Copy)]
 pub struct Said {
     pub number: u8,
     pub value: u32,
@@ -44,7 +44,7 @@ fn filled() -> [u8; ROOM] {
 }
 
 // What the writer said, and the room after it.
-#[derive(Drop)]
+#[derive(Clone, Copy)]
 struct Text {
     number: u8,
     length: u32,

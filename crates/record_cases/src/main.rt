@@ -1,5 +1,7 @@
 // Records made by hand: every public call on records that no loader makes, and on any memo.
 
+#![tactic(auto)]
+
 mod calls;
 mod script;
 

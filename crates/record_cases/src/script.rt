@@ -85,7 +85,7 @@ fn printed(said: Said, q: Command) {
 
 // ---- the script
 
-#[derive(Drop)]
+#[derive(Clone, Copy)]
 struct Place {
     offset: usize,
     back: usize,

@@ -5,6 +5,8 @@
 // B2 what is known, B3 the values. C is the index: C0 first places, C1 numbers of edges, C2 places. A row past the end of its table counts
 // on from the start.
 
+#![tactic(auto)]
+
 pub mod print;
 
 use common::{

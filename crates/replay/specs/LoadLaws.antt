@@ -15,7 +15,7 @@ use Rattle.justification.specs.Predicates.{question_refusal}
 use Rattle.memo.specs.Walk.{Outcome, granted, denied, evaluated_all, eagerly, walk}
 use Rattle.memo.specs.Memo.{memo_for}
 use Rattle.access.specs.Access.{truth_at, answered, refused, asked, eager, lazy}
-use Rattle.history.specs.Book.{add, remove, askEagerly, askLazily, check_ticket}
+use Rattle.history.specs.Book.{add, remove, ask_eagerly, ask_lazily, check_ticket}
 use Rattle.replay.specs.Replay.{ListedCall, call, liberally, strictly, unknown, answer_to}
 
 -- an edit, by its number
@@ -59,10 +59,10 @@ pub answer_loads : (r : Record) (x : ListedCall) → loadable (answer_to r x).ru
 unfolding answer_to eager lazy
 answer_loads r (call (add l x y)) = add_loads r l x y
 answer_loads r (call (remove l x y)) = remove_loads r l x y
-answer_loads r (call (askEagerly q)) =
+answer_loads r (call (ask_eagerly q)) =
     asked_loads r (question_refusal r q) (memo_for r.memo q)
     (eagerly r q.method (evaluated_all (truth_at r q) r (memo_for r.memo q) (below r.principal_count)))
-answer_loads r (call (askLazily q)) =
+answer_loads r (call (ask_lazily q)) =
     asked_loads r (question_refusal r q) (memo_for r.memo q) (walk (truth_at r q) r (memo_for r.memo q) (candidates r q.method))
 answer_loads r (call (check_ticket t)) = refl
 answer_loads r (liberally q) = refl

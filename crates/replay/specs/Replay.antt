@@ -14,7 +14,7 @@ use Rattle.access.specs.Access.{eager, lazy}
 use Rattle.tickets.specs.Tickets.{ticket_of, ticket_refusal}
 use Rattle.replay.specs.declared.CallFields.{CallFields}
 use Rattle.replay.specs.declared.Replayed.{Replayed}
-use Rattle.history.specs.Book.{Call, add, remove, askEagerly, askLazily, check_ticket}
+use Rattle.history.specs.Book.{Call, add, remove, ask_eagerly, ask_lazily, check_ticket}
 
 -- a call as it is listed: a call of demand 3, one of the predicates, or no kind that there is
 pub data ListedCall : Type 0 where
@@ -48,8 +48,8 @@ abbrev pub of_kind : ℕ → CallFields → ListedCall
 of_kind kind f =
     cond (eqb kind 0) (call (add f.first f.second f.third))
     (cond (eqb kind 1) (call (remove f.first f.second f.third))
-    (cond (eqb kind 2) (call (askEagerly (question_of f)))
-    (cond (eqb kind 3) (call (askLazily (question_of f)))
+    (cond (eqb kind 2) (call (ask_eagerly (question_of f)))
+    (cond (eqb kind 3) (call (ask_lazily (question_of f)))
     (cond (eqb kind 4) (liberally (question_of f))
     (cond (eqb kind 5) (strictly (question_of f))
     (cond (eqb kind 6) (call (check_ticket (ticket_of (question_of f) f.set)))
@@ -73,8 +73,8 @@ verdict_answer r v = record { number = v.number; set = cond v.yes 1 0; evaluatio
 unfoldable pub answer_to : Record → ListedCall → Answer
 answer_to r (call (add l x y)) = edit_answer (added r l x y)
 answer_to r (call (remove l x y)) = edit_answer (removed r l x y)
-answer_to r (call (askEagerly q)) = eager r q
-answer_to r (call (askLazily q)) = lazy r q
+answer_to r (call (ask_eagerly q)) = eager r q
+answer_to r (call (ask_lazily q)) = lazy r q
 answer_to r (call (check_ticket t)) = number_answer r (ticket_refusal r t)
 answer_to r (liberally q) = verdict_answer r (liberal r q)
 answer_to r (strictly q) = verdict_answer r (strict r q)

@@ -5,13 +5,13 @@ use Rattle.std.proofs.Common.{sym, ◌∙◌, ap, subst, arith}
 use Rattle.policy.specs.declared.Record.{Record}
 use Rattle.reading.specs.Loading.{load}
 use Rattle.tickets.specs.declared.Ticket.{Ticket}
-use Rattle.history.specs.Book.{Call, add, remove, askEagerly, askLazily, check_ticket, Book, plain, first_book}
+use Rattle.history.specs.Book.{Call, add, remove, ask_eagerly, ask_lazily, check_ticket, Book, plain, first_book}
 use Rattle.history.specs.Book.{book_answer, book_after, number_and_set, engine_leaves, engine_after}
-use Rattle.history.specs.Agrees.{Agrees}
-use Rattle.history.specs.EditAgrees.{add_number_lem, remove_number_lem}
-use Rattle.history.specs.AskAgrees.{eager_answer, lazy_answer, check_number}
+use Rattle.history.proofs.Agrees.{Agrees}
+use Rattle.history.proofs.EditAgrees.{add_number_lem, remove_number_lem}
+use Rattle.history.proofs.AskAgrees.{eager_answer, lazy_answer, check_number}
 use Rattle.history.specs.Demand3.{CallHolds}
-use Rattle.history.specs.Theorem.{call_holds, list_agrees, start}
+use Rattle.history.proofs.Theorem.{call_holds, list_agrees, start}
 use Rattle.replay.specs.Replay.{ListedCall, call, liberally, strictly, unknown, answer_to, listed_call_at, left_after}
 
 -- the call of demand 3 that a listed call is; a predicate and an unknown kind are none
@@ -35,8 +35,8 @@ leaves : (r : Record) (x : ListedCall) → (answer_to r x).rules ≡ engine_afte
 unfolding answer_to engine_after engine_leaves
 leaves r (call (add l x y)) = refl
 leaves r (call (remove l x y)) = refl
-leaves r (call (askEagerly q)) = refl
-leaves r (call (askLazily q)) = refl
+leaves r (call (ask_eagerly q)) = refl
+leaves r (call (ask_lazily q)) = refl
 leaves r (call (check_ticket t)) = refl
 leaves r (liberally q) = refl
 leaves r (strictly q) = refl
@@ -66,8 +66,8 @@ answer_is : (b : Record) (book : Book) (r : Record) → Agrees b book r → (c :
 unfolding answer_to book_answer
 answer_is b book r h (add l x y) = ap (λ (k : ℕ). plain k) (add_number_lem b book r h l x y)
 answer_is b book r h (remove l x y) = ap (λ (k : ℕ). plain k) (remove_number_lem b book r h l x y)
-answer_is b book r h (askEagerly q) = eager_answer b book r h q
-answer_is b book r h (askLazily q) = lazy_answer b book r h q
+answer_is b book r h (ask_eagerly q) = eager_answer b book r h q
+answer_is b book r h (ask_lazily q) = lazy_answer b book r h q
 answer_is b book r h (check_ticket t) = ap (λ (k : ℕ). plain k) (check_number b book r h t)
 
 -- ---- a record just loaded, and any octets of calls

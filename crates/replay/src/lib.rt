@@ -1,6 +1,8 @@
 // Lists of calls, answered one after another, each on the record that those before it left. The theorem of demand 3 over such
 // lists stands in specs/.
 
+#![tactic(auto)]
+
 ghost use Rattle.std.specs.Prelude.{◌≡◌, [], ◌∷◌, ◌++◌, ℕ, ◌+◌, ◌/◌, ◌≤◌, min, length, take, drop};
 ghost use Rattle.octets.specs.Number.{number, in_octets};
 ghost use Rattle.policy.specs.declared.Record as records;
@@ -22,7 +24,7 @@ const CALL_OCTETS: usize = 8;
 const ANSWER_OCTETS: usize = 5;
 
 // A call as it is listed. What a kind has no use for is ignored.
-#[derive(Drop)]
+#[derive(Clone, Copy)]
 pub struct CallFields {
     pub kind: u8,
     pub first: u8,
@@ -205,7 +207,7 @@ fn put_answer(answers: &mut [u8], place: usize, number: u8, set: u32, evaluation
 }
 
 // What answering a list comes to, beside the answers: how many there are, and the record that the last call left.
-#[derive(Drop)]
+#[derive(Clone, Copy)]
 pub struct Replayed {
     pub count: usize,
     pub rules: Record,

@@ -1,3 +1,5 @@
+#![tactic(auto)]
+
 use rewriting::MOST_BYTES;
 
 // Reads a bundle of at most 65,536 bytes on standard input and writes it again by the writer, or says why not.

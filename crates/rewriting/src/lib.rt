@@ -1,5 +1,7 @@
 // What the program `rewrite` prints: one function from the bytes of its input to the bytes of its output.
 
+#![tactic(auto)]
+
 ghost use Rattle.std.specs.Prelude.{◌≡◌, [], ◌∷◌, ◌+◌, ◌≤◌, ◌<◌, length, take};
 ghost use Rattle.rewriting.specs.Program.{refused_start, refused_text, program, shown_length, shown};
 
@@ -7,7 +9,7 @@ ghost use Rattle.rewriting.specs.Program.{refused_start, refused_text, program, 
 pub const MOST_BYTES: usize = 65536;
 
 // A refusal's text: so many of the bytes.
-#[derive(Drop)]
+#[derive(Clone, Copy)]
 pub struct Refusal {
     pub bytes: [u8; 16],
     pub length: usize,

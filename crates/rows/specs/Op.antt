@@ -7,7 +7,7 @@ use Rattle.common.specs.Limits.{highest_label, highest_role, highest_slot, great
 -- "Op 9 keeps here in slot a (0 to 3) while b is evaluated"; "Op 10 is true when slot a holds here, with b = 0";
 -- "Op 11 evaluates b at the vertex in slot a"
 pub data Op : Type 0 where
-  always requestor object role negation conjunction disjunction forward backward keeping in_slot atSlot unknown : Op
+  always requestor object role negation conjunction disjunction forward backward keeping in_slot at_slot unknown : Op
 
 abbrev pub op_of : ℕ → Op
 op_of n =
@@ -22,7 +22,7 @@ op_of n =
     (cond (eqb n 8) backward
     (cond (eqb n 9) keeping
     (cond (eqb n 10) in_slot
-    (cond (eqb n 11) atSlot
+    (cond (eqb n 11) at_slot
     unknown)))))))))))
 
 -- a and b of the formula numbered i: formula numbers below i, a role or label 0 to 15, a slot 0 to 3, 0 where unused;
@@ -39,7 +39,7 @@ parts_in_range forward i a b = leb a highest_label && ltb b i
 parts_in_range backward i a b = leb a highest_label && ltb b i
 parts_in_range keeping i a b = leb a highest_slot && ltb b i
 parts_in_range in_slot i a b = leb a highest_slot && eqb b 0
-parts_in_range atSlot i a b = leb a highest_slot && ltb b i
+parts_in_range at_slot i a b = leb a highest_slot && ltb b i
 parts_in_range unknown i a b = false
 
 -- 0 for ops 0 to 3, else one more than the highest child; "In 9 and 11, .. the height is one more than b's; op 10 has height 0";
@@ -56,7 +56,7 @@ height_of forward a b part = suc (part b)
 height_of backward a b part = suc (part b)
 height_of keeping a b part = suc (part b)
 height_of in_slot a b part = 0
-height_of atSlot a b part = suc (part b)
+height_of at_slot a b part = suc (part b)
 height_of unknown a b part = 0
 
 -- the formula (op, a, b) numbered i, with a height h, is in range; request 2026-05: "Height 6 is out of range, in a bundle and in a record

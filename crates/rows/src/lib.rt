@@ -1,6 +1,8 @@
 // What each line of a kind's table is held to: the checks that loading and `loadable` share.
 // `row` is the line's row in its table, `minimum` the smallest key that may stand there.
 
+#![tactic(auto)]
+
 ghost use Rattle.std.specs.Prelude.{◌≡◌, true, false, not, ◌&&◌, ℕ, max, ◌+◌, ◌<◌, ltb, leb, eqb};
 ghost use Rattle.common.specs.Lists.{at};
 ghost use Rattle.common.specs.Causes.{first};

@@ -5,6 +5,8 @@
 // What cannot be completed is not entered: `possible` looks for a set that can, by way of the givers of the wanted privilege
 // that has fewest of them, whatever their numbers. So a refusal costs no more than a grant.
 
+#![tactic(auto)]
+
 ghost use Rattle.std.specs.Prelude.{◌≡◌, ℕ, ◌+◌, ◌^◌, ◌<◌, ◌≤◌, true, false, ◌≢◌, bit_and, bit_or, count_ones};
 ghost use Rattle.common.specs.Limits.{most_principals, most_related};
 ghost use Rattle.common.specs.Lists.{at};
@@ -17,7 +19,7 @@ ghost use Rattle.search.specs.Steps.{WithinFrom, Joins, State, Completed, OfSize
 use common::{MOST_PRINCIPALS, MOST_RELATED};
 
 // The constraints and privileges of each principal, the principals that are allowed, those that are role principals, and the guard.
-#[derive(Drop)]
+#[derive(Clone, Copy)]
 pub struct Masks {
     pub count: usize,
     pub allowed: u32,
@@ -34,14 +36,14 @@ pub struct Masks {
 }
 
 // The least set of those looked for; nothing where there is none.
-#[derive(Drop)]
+#[derive(Clone, Copy)]
 pub enum Found {
     Set(u32),
     Nothing,
 }
 
 // How many members a set may have, and how many role principals.
-#[derive(Drop)]
+#[derive(Clone, Copy)]
 struct Limit {
     members: usize,
     role_principals: usize,

@@ -26,7 +26,7 @@ height_most Op.forward a b n part h = omega (arith, h b)
 height_most Op.backward a b n part h = omega (arith, h b)
 height_most Op.keeping a b n part h = omega (arith, h b)
 height_most Op.in_slot a b n part h = omega arith
-height_most Op.atSlot a b n part h = omega (arith, h b)
+height_most Op.at_slot a b n part h = omega (arith, h b)
 height_most Op.unknown a b n part h = omega arith
 
 -- the heights of the formulas below i

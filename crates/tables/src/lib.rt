@@ -1,5 +1,7 @@
 // Whether loading could have made a table of a record, kind by kind, on the table's lent columns: nothing is copied.
 
+#![tactic(auto)]
+
 ghost use Rattle.std.specs.Prelude.{◌≡◌, true, ◌&&◌, ◌≤◌};
 ghost use Rattle.closure.specs.Closure.{pairs_of, circular};
 ghost use Rattle.common.specs.Limits.{most_principals};

@@ -1,6 +1,8 @@
 // Grant tickets: whether a set of principals that somebody proposes for a question will do. Formulas are evaluated afresh; the memo is
 // neither read nor changed.
 
+#![tactic(auto)]
+
 ghost use Rattle.std.specs.Prelude.{◌≡◌, true, ℕ, ◌^◌, ◌≤◌, ◌<◌, ltb};
 ghost use Rattle.common.specs.Limits.{most_principals};
 ghost use Rattle.common.specs.Lists.{every};
@@ -17,7 +19,7 @@ use policy::Record;
 use search::Masks;
 
 // A ticket: a question, and the set of principals that is proposed for it.
-#[derive(Drop)]
+#[derive(Clone, Copy)]
 pub struct Ticket {
     pub question: Question,
     pub set: u32,

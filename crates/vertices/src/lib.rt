@@ -3,6 +3,8 @@
 // of its own label only, forward in the edges' own order and backward in the index's. From a single vertex it passes over those that start
 // there, which stand together and are found by halving.
 
+#![tactic(auto)]
+
 ghost use Rattle.std.specs.Prelude.{◌≡◌, Bool, true, false, not, ◌&&◌, ◌||◌, List, ℕ, ◌≤◌, ◌<◌, length, eqb, ltb};
 ghost use Rattle.common.specs.Limits.{most_edges};
 ghost use Rattle.common.specs.Halving.{Parted};

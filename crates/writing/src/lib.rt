@@ -1,5 +1,7 @@
 // Writing lines one after another: each goes into the unwritten rest of the lent buffer.
 
+#![tactic(auto)]
+
 ghost use Rattle.std.specs.Prelude.{◌≡◌, [], ◌∷◌, ◌+◌, ◌*◌, ◌≤◌, length};
 ghost use Rattle.common.specs.Lists.{table};
 ghost use Rattle.octets.specs.Line.{total, framed};
@@ -8,7 +10,7 @@ ghost use Rattle.writing.specs.Drafts.{longest_body, greatest_total, RoomFor, Pu
 ghost use Rattle.writing.specs.Drafts.{pair_line, triple_line, user_line, demarcation_line, method_line};
 
 // How far writing has come: the offset of the next line, how many lines were written, and the plain sum of their octets.
-#[derive(Drop)]
+#[derive(Clone, Copy)]
 pub struct Draft {
     pub offset: usize,
     pub lines: usize,

@@ -36,14 +36,14 @@ use Rattle.search.specs.SearchLaws.{before_members, before_role_count}
 use Rattle.tickets.specs.declared.Ticket.{Ticket}
 use Rattle.tickets.specs.Tickets.{ticket_of, ticket_refusal, SetNumber}
 use Rattle.tickets.specs.TicketLaws.{set_number, ticket_after}
-use Rattle.history.specs.Book.{Call, add, remove, askEagerly, askLazily, check_ticket, Book, BookAnswer, first_book, holds_edge}
+use Rattle.history.specs.Book.{Call, add, remove, ask_eagerly, ask_lazily, check_ticket, Book, BookAnswer, first_book, holds_edge}
 use Rattle.history.specs.Book.{add_refusal, remove_refusal, check_refusal}
 use Rattle.history.specs.Book.{ask_refusal, verdict, enabled_in, ask, book_after_call, book_after, number_and_set, engine_leaves, engine_after}
-use Rattle.history.specs.Agrees.{Distinct, Agrees}
-use Rattle.history.specs.EditAgrees.{distinct_rows, add_number_lem, add_agrees, add_refused, remove_number_lem, remove_agrees, remove_refused}
-use Rattle.history.specs.EditAgrees.{emptied_lengths, without_holds}
-use Rattle.history.specs.AskAgrees.{refusal_is, check_number, eager_answer, eager_agrees, eager_refused, lazy_answer, lazy_agrees, lazy_refused}
-use Rattle.history.specs.FirstBook.{first_edges}
+use Rattle.history.proofs.Agrees.{Distinct, Agrees}
+use Rattle.history.proofs.EditAgrees.{distinct_rows, add_number_lem, add_agrees, add_refused, remove_number_lem, remove_agrees, remove_refused}
+use Rattle.history.proofs.EditAgrees.{emptied_lengths, without_holds}
+use Rattle.history.proofs.AskAgrees.{refusal_is, check_number, eager_answer, eager_agrees, eager_refused, lazy_answer, lazy_agrees, lazy_refused}
+use Rattle.history.proofs.FirstBook.{first_edges}
 use Rattle.history.specs.Demand3.{Changes, EditHolds, Known, Satisfies, QuestionHolds, BothForms, GrantHolds, NoMoreMembers}
 use Rattle.history.specs.Demand3.{TicketHolds, CallHolds, ListHolds, Demand3}
 
@@ -301,17 +301,17 @@ module _ (b : Record) (book : Book) (r : Record) (h : Agrees b book r) where
   pub call_holds : (c : Call) → CallHolds b book r c
   call_holds (add l x y) = add_holds l x y
   call_holds (remove l x y) = remove_holds l x y
-  call_holds (askEagerly q) =
+  call_holds (ask_eagerly q) =
       (eager_holds q, both_forms q, grant_holds q (eager r q) (eager_holds q) (eager_agrees b book r h q))
-  call_holds (askLazily q) = (lazy_holds q, both_forms q, grant_holds q (lazy r q) (lazy_holds q) (lazy_agrees b book r h q))
+  call_holds (ask_lazily q) = (lazy_holds q, both_forms q, grant_holds q (lazy r q) (lazy_holds q) (lazy_agrees b book r h q))
   call_holds (check_ticket t) = ticket_holds t
 
   pub call_agrees : (c : Call) → Agrees b (book_after_call b book c) (engine_leaves r c)
   unfolding book_after_call engine_leaves
   call_agrees (add l x y) = add_agrees b book r h l x y
   call_agrees (remove l x y) = remove_agrees b book r h l x y
-  call_agrees (askEagerly q) = eager_agrees b book r h q
-  call_agrees (askLazily q) = lazy_agrees b book r h q
+  call_agrees (ask_eagerly q) = eager_agrees b book r h q
+  call_agrees (ask_lazily q) = lazy_agrees b book r h q
   call_agrees (check_ticket t) = h
 
 -- ---- whole lists

@@ -31,7 +31,7 @@ use Rattle.history.specs.Book.{Book, holds_edge, add, remove, add_refusal, remov
 use Rattle.policy.specs.TableLaws.{ColumnLengths}
 use Rattle.policy.specs.LoadableLaws.{table_few, loadable_table}
 use Rattle.policy.specs.ColumnLengthLaws.{sized_changed}
-use Rattle.history.specs.Agrees.{Distinct, none, more, Agrees}
+use Rattle.history.proofs.Agrees.{Distinct, none, more, Agrees}
 
 -- ---- edges with one more, and with one less
 

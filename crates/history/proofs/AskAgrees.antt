@@ -24,7 +24,7 @@ use Rattle.access.specs.CorrectMemoLaws.{eager_true, lazy_true}
 use Rattle.tickets.specs.declared.Ticket.{Ticket}
 use Rattle.tickets.specs.Tickets.{constraint_refusal, set_refusal, after_question, ticket_refusal}
 use Rattle.history.specs.Book.{Book, plain, ask_refusal, verdict, enabled_in, ask, check_refusal, number_and_set}
-use Rattle.history.specs.Agrees.{Agrees}
+use Rattle.history.proofs.Agrees.{Agrees}
 
 -- ---- what stays as the bundle has it
 
