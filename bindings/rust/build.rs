@@ -11,7 +11,7 @@ fn main() {
     println!("cargo::rerun-if-changed={}", library.display());
     if !library.is_file() {
         println!(
-            "cargo::error=target/staticlib/libcapi.a is missing: `rt staticlib capi` makes it"
+            "cargo::error=target/staticlib/libcapi.a is missing: `tools/build library` makes it"
         );
         return;
     }

@@ -7,7 +7,7 @@
 //! after `cargo bench --` measure only the sections that have one of them in their title.
 
 #[cfg(not(engine))]
-compile_error!("../target/staticlib/libcapi.a is missing: `rt staticlib capi` makes it");
+compile_error!("../target/staticlib/libcapi.a is missing: `tools/build library` makes it");
 
 #[path = "ratios/bundles.rs"]
 mod bundles;

@@ -12,7 +12,7 @@
 //! of height or one above it, or a limit that no bundle reached.
 
 #[cfg(not(engine))]
-compile_error!("../target/staticlib/libcapi.a is missing: `rt staticlib capi` makes it");
+compile_error!("../target/staticlib/libcapi.a is missing: `tools/build library` makes it");
 
 #[path = "differential/calls.rs"]
 mod calls;

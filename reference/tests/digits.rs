@@ -6,7 +6,7 @@
 //! printed with its text and fails the test, and so does a number that came up too seldom.
 
 #[cfg(not(engine))]
-compile_error!("../target/staticlib/libcapi.a is missing: `rt staticlib capi` makes it");
+compile_error!("../target/staticlib/libcapi.a is missing: `tools/build library` makes it");
 
 #[path = "digits/bundles.rs"]
 mod bundles;

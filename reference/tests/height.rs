@@ -8,7 +8,7 @@
 //! leaves every octet.
 
 #[cfg(not(engine))]
-compile_error!("../target/staticlib/libcapi.a is missing: `rt staticlib capi` makes it");
+compile_error!("../target/staticlib/libcapi.a is missing: `tools/build library` makes it");
 
 #[path = "differential/calls.rs"]
 mod calls;

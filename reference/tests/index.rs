@@ -15,7 +15,7 @@
 //! sort of record, or of altered index, that came up too seldom.
 
 #[cfg(not(engine))]
-compile_error!("../target/staticlib/libcapi.a is missing: `rt staticlib capi` makes it");
+compile_error!("../target/staticlib/libcapi.a is missing: `tools/build library` makes it");
 
 #[path = "index/altered.rs"]
 mod altered;

@@ -6,7 +6,7 @@
 //! numbers, sets and evaluations must be equal.
 
 #[cfg(not(engine))]
-compile_error!("../target/staticlib/libcapi.a is missing: `rt staticlib capi` makes it");
+compile_error!("../target/staticlib/libcapi.a is missing: `tools/build library` makes it");
 
 #[allow(dead_code)]
 #[path = "differential/engine.rs"]

@@ -156,10 +156,10 @@ module _ (truth : ℕ → Bool) where
       here : Reached n n
       from : {m : Memo} (p : ℕ) → p < r.principal_count → Reached n (evaluated truth m (formula_of r p)) → Reached n m
 
-    pub reached_on : {k m n : Memo} → Reached m k → Reached n m → Reached n k
+    pub reached_on : {m k n : Memo} → Reached m k → Reached n m → Reached n k
     reached_on here b = b
     reached_on (from p l a) b = from p l (reached_on a b)
 
-    pub reached_same : {m n : Memo} → Reached n m → Same m n
-    reached_same {m} here = same_self m
-    reached_same {m} (from p l a) = same_trans (evaluates m (formula_of r p)).same (reached_same a)
+    pub reached_same : {n m : Memo} → Reached n m → Same m n
+    reached_same {m = m} here = same_self m
+    reached_same {m = m} (from p l a) = same_trans (evaluates m (formula_of r p)).same (reached_same a)

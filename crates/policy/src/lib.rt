@@ -17,8 +17,8 @@ pub mod given;
 pub mod loadable;
 
 // For one pair (object, requestor): which formulas have been evaluated, and what they came to.
-#[repr(C)]
 #[derive(Clone, Copy)]
+#[repr(C)]
 pub struct Memo {
     pub object: u8,
     pub requestor: u8,
@@ -28,8 +28,8 @@ pub struct Memo {
 
 // The rules of a bundle. Every kind of line is a table: a count, and a column for each number of the line's body.
 // Unused places are zero in a record that was loaded; one built by hand may hold anything.
-#[repr(C)]
 #[derive(Clone, Copy)]
+#[repr(C)]
 pub struct Record {
     // Objects are 0 to objects - 1.
     pub objects: u8,
