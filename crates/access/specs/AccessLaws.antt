@@ -90,10 +90,10 @@ module _ (q : ℕ → Bool) (truth : ℕ → Bool) (r : Record) where
       go false (yes i) k = ap q i ∙ e (omega (arith, i, in_place (noted m f (truth f)).known g k, length-set m.known f true))
       go false (no i) k = h g (sym (get_or-set_other m.known f g true false i) ∙ k)
 
-  reached_within : {m n : Memo} → Reached truth r n m
+  reached_within : {n m : Memo} → Reached truth r n m
       → ((p : ℕ) → p < r.principal_count → formula_of r p < length m.known → q (formula_of r p) ≡ true) → Within m → Within n
   reached_within here a h = h
-  reached_within {m} (from p l s) a h =
+  reached_within {m = m} (from p l s) a h =
       reached_within s (λ g i w. a g i (omega (arith, (evaluates truth m (formula_of r p)).same.knowns)))
       (evaluated_within m (formula_of r p) (a p l) h)
 
