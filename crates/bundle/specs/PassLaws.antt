@@ -127,7 +127,7 @@ module _ (r : Record) (typed : Typed r) (loads : loadable r ≡ true) where
   come_kinds {ls} [] e l x = subst (λ (d : ℕ). Come (ls ++ []) d (Whole r d)) e (come_same (sym (append-nil ls)) x)
   come_kinds {ls} (k ∷ ks) e l x =
       come_same (append_assoc ls (table_lines k r) (rule_lines ks r))
-      (come_kinds ks e.2 (omega arith) (come_table k (let h = e.0 in omega arith) e.1 e.0 x))
+      (come_kinds {ls = ls ++ table_lines k r} ks e.2 (omega arith) (come_table k (let h = e.0 in omega arith) e.1 e.0 x))
 
   -- THE LAW: all lines but the end line
   pub come_rules : Come (rule_lines kinds r) 0x0B (Whole r 0x0B)
