@@ -32,7 +32,7 @@ use Rattle.access.specs.CorrectMemoLaws.{emptied_correct}
 use Rattle.memo.specs.Memo.{memo_for, newly}
 use Rattle.memo.specs.WalkLaws.{MemoLengths}
 use Rattle.search.specs.Search.{Before}
-use Rattle.search.specs.SearchLaws.{before_members, before_role_count}
+use Rattle.search.proofs.SearchLaws.{before_members, before_role_count}
 use Rattle.tickets.specs.declared.Ticket.{Ticket}
 use Rattle.tickets.specs.Tickets.{ticket_of, ticket_refusal, SetNumber}
 use Rattle.tickets.specs.TicketLaws.{set_number, ticket_after}

@@ -16,7 +16,7 @@ use Rattle.search.specs.declared.Found.TheVariants.{Set, Nothing}
 use Rattle.search.specs.Answers.{FoundValues, granted, denied, found_values}
 use Rattle.search.specs.Answers.GrantedOrDenied.{grants, denies}
 use Rattle.search.specs.Search.{Consistent, Given, Met, Candidate, Before, role_count_in, Least}
-use Rattle.search.specs.SearchLaws.{before_counts}
+use Rattle.search.proofs.SearchLaws.{before_counts}
 use Rattle.justification.specs.Justification.{members, meets, consistent, role_count, least}
 use Rattle.justification.specs.Satisfying.{IsConsistent, SomeHas, GuardMet}
 use Rattle.justification.specs.SatisfyingLaws.{of_members, consistent_says, guard_says, passes}

@@ -13,7 +13,7 @@ use Rattle.common.specs.Lists.{every, those}
 use Rattle.policy.specs.declared.Record.{Record}
 use Rattle.search.specs.Search.{Before}
 use Rattle.search.specs.Search.Before.{by_members, by_role_count_lem, by_number}
-use Rattle.search.specs.SearchLaws.{before_antisym}
+use Rattle.search.proofs.SearchLaws.{before_antisym}
 use Rattle.justification.specs.Justification.{members, meets, consistent, role_count, sets, by_role_count, by_size, all_sets, first_among, candidates, least}
 use Rattle.justification.specs.RoleCountLaws.{role_few}
 use Rattle.justification.specs.Order.{IsLeast}

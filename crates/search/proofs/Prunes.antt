@@ -1,10 +1,10 @@
 -- Where the search may turn back, and why no candidate is missed.
 use Rattle.std.proofs.Common.{◌≡◌, ℕ, suc, ◌+◌, ◌-◌, ◌*◌, ◌/◌, ◌%◌, ◌^◌, ◌<◌, ◌≤◌, Bool, true, false, sym, ap, ◌∙◌, subst, ⊎_elim, zero-le, eq-or-lt_of_le, arith, pow_pos, shr-shr}
-use lib.Bits.{bit_and, bit_or, and_comm}
+use lib.Bits.{bit_and, bit_or}
 use lib.Count.{ones, ones_cat, ones-le}
 use Rattle.common.specs.Lists.{at}
 use Rattle.common.specs.Sets.{In, Apart, Within}
-use Rattle.common.specs.SetLaws.{le_or_lt, in_or_out, none_in_zero, some_in, in_and, and_in_l, and_in_r, within_and, or_in}
+use Rattle.common.specs.SetLaws.{le_or_lt, in_or_out, none_in_zero, some_in, and_in_l, or_in}
 use Rattle.common.specs.SetLaws.{in_lt, in_ge, in_pow, pow_in, in_sum_l, in_sum_r, sum_in}
 use Rattle.search.specs.declared.Masks.{Masks}
 use Rattle.search.specs.declared.Limit.{Limit}

@@ -1,5 +1,5 @@
 -- The search's steps: from what is found below m to what is found below n = m + 1.
-use Rattle.std.proofs.Common.{◌≡◌, ℕ, suc, ◌+◌, ◌-◌, ◌*◌, ◌/◌, ◌^◌, ◌<◌, ◌≤◌, ◌⊎◌, sym, refl, ap, ◌∙◌, subst, inl, inr, ⊎_elim, mul_assoc, mul_comm, add-mul, eq-or-lt_of_le, one-mul, arith, pow_pos, pow_mono}
+use Rattle.std.proofs.Common.{◌≡◌, ℕ, suc, ◌+◌, ◌-◌, ◌*◌, ◌^◌, ◌<◌, ◌≤◌, ◌⊎◌, sym, ap, ◌∙◌, subst, inl, inr, ⊎_elim, mul_assoc, add-mul, eq-or-lt_of_le, one-mul, arith, pow_pos, pow_mono}
 use lib.Bits.{bit_or}
 use lib.Count.{ones, ones-le}
 use Rattle.search.specs.declared.Masks.{Masks}

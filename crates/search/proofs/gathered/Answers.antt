@@ -1,0 +1,16 @@
+-- `gathered` meets its contract: each iteration adds what p lists, where p is a member.
+use Rattle.std.proofs.Common.{arith}
+use Rattle.search.proofs.Sums.{gathers_more, gathers_skip}
+use Rattle.search.proofs.gathered.Goals as goal
+use Rattle.search.proofs.gathered.Goals.{then-has, else-has}
+
+pub loop-p-preserved : goal.loop-p-preserved
+loop-p-preserved c =
+    let p = c.loop-p.p in
+    let inv = c.loop-p.invariant.0 in (
+      elim c.if-has.branch [
+        | then-has w ↦ rw w.g-is (gathers_more p (c.has.ensures.yes w.if-has.true) inv)
+        | else-has w ↦ rw w.g-is (gathers_skip p (c.has.ensures.no w.if-has.false) inv)
+      ],
+      omega arith,
+    )

@@ -1,0 +1,10 @@
+-- The loop's invariant: every candidate of k members has j role principals or more.
+use Rattle.std.proofs.Common.{◌≡◌, ℕ, ◌+◌, ◌-◌, ◌≤◌, count_ones}
+use Rattle.search.specs.Search.{Candidate, role_count_in}
+use Rattle.search.proofs.of_size.Given as goal
+
+abbrev pub invariant-loop-j : goal.invariant-loop-j
+invariant-loop-j l = (t : ℕ) → Candidate l.masks t → count_ones t ≡ l.k → l.j ≤ role_count_in l.masks t
+
+abbrev pub decreases-loop-j : goal.decreases-loop-j
+decreases-loop-j l = l.most + 1 - l.j
