@@ -1,2 +1,1 @@
 mod Interfaces
-mod Lending
