@@ -18,7 +18,7 @@ use Rattle.vertices.specs.Steps.{leads, is_in, placed, Among, HasMember, edges_i
 use Rattle.vertices.specs.StepLaws.{some_edge, edge_some}
 use Rattle.formula.specs.Formula.{Context, Formulas, true_of, slot, keep, meaning, true_below}
 use Rattle.formula.specs.Uses.{reads_slot}
-use Rattle.formula.specs.SlotLaws.{kept_unread}
+use Rattle.formula.proofs.SlotLaws.{kept_unread}
 use Rattle.formula.specs.Evaluation.{formula_at, Direction}
 use Rattle.formula.specs.EvaluationLaws.{below_in}
 

@@ -1,10 +1,10 @@
 -- Two graphs with the same edges, in whatever order, give a formula the same value, whatever its slots hold.
 use Prim.Native.Nat.{ℕ, zero, suc}
-use Rattle.std.specs.Prelude.{◌≡◌, Bool, true, ◌&&◌, ◌||◌, List, eqb}
+use Rattle.std.specs.Prelude.{◌≡◌, Bool, ◌&&◌, ◌||◌, List, eqb}
 use Rattle.std.proofs.Math.Path.{refl, ap}
 use Rattle.std.proofs.Common.{◌∙◌}
 use Rattle.std.proofs.Math.Bool.{not, cond}
-use Rattle.common.specs.Lists.{at, any, same}
+use Rattle.common.specs.Lists.{at}
 use Rattle.rows.specs.Op.{
   Op,
   always,

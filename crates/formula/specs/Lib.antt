@@ -2,7 +2,6 @@ pub mod Formula
 pub mod FormulaLaws
 pub mod Uses
 pub mod FirstMeaning
-pub mod SlotLaws
 pub mod SlotExamples
 pub mod Evaluation
 pub mod EvaluationLaws
