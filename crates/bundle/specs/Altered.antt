@@ -9,7 +9,7 @@ use Rattle.common.specs.Refusals as refusals
 use Rattle.closure.specs.Closure.{circular}
 use Rattle.octets.specs.Line.{Framed, kind_octet}
 use Rattle.octets.specs.Damage.{OneAltered}
-use Rattle.octets.specs.DamageLaws.{never_well_framed}
+use Rattle.octets.proofs.DamageLaws.{never_well_framed}
 use Rattle.policy.specs.Table.{Kind, hierarchy, prerequisite, kind_of, count, room, rows, blank, indexed}
 use Rattle.rows.specs.Checks.{causes}
 use Rattle.policy.specs.Rows.{limited, rising, key, minimum_key, in_range, row_causes}

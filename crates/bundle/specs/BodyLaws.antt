@@ -7,8 +7,8 @@ use Rattle.common.specs.Lists.{at, table}
 use Rattle.common.specs.ListLaws.{map_table}
 use Rattle.octets.specs.Line.{kind_octet, body_of, total, check, framed}
 use Rattle.octets.specs.Number.{number, in_octets}
-use Rattle.octets.specs.NumberLaws.{length_in_octets, octets_in_octets, number_in_octets, in_octets_number}
-use Rattle.octets.specs.WritingLaws.{Octets, octets_append, octets_take, length_framed, framed_again}
+use Rattle.octets.proofs.NumberLaws.{length_in_octets, octets_in_octets, number_in_octets, in_octets_number}
+use Rattle.octets.proofs.WritingLaws.{Octets, octets_append, octets_take, length_framed, framed_again}
 use Rattle.policy.specs.declared.Record.{Record}
 use Rattle.policy.specs.Table.{Kind, head, user, edge, formula, demarcation, hierarchy, principal, exclusion, prerequisite, method, end}
 use Rattle.policy.specs.Table.{code, count, row}

@@ -4,7 +4,7 @@ use Rattle.std.proofs.Common.{sym, ◌∙◌, ap, append_assoc}
 use Rattle.std.proofs.lemmas.Bool.{false≢true}
 use Rattle.common.specs.Lists.{every}
 use Rattle.octets.specs.Line.{Framed, refused, octets, rest_of, frame, starts, later_lines, lines, digits, text_of}
-use Rattle.octets.specs.WritingLaws.{written_again}
+use Rattle.octets.proofs.WritingLaws.{written_again}
 use Rattle.octets.specs.Damage.{is_accepted, well_framed}
 
 -- the octets of the lines, where all are accepted

@@ -5,7 +5,7 @@ use Rattle.common.specs.Limits.{most_users, most_edges, most_formulas, most_dema
 use Rattle.common.specs.Limits.{most_exclusions, most_methods}
 use Rattle.common.specs.ListLaws.{length_table}
 use Rattle.octets.specs.Line.{total, line_bytes, text_of, totals}
-use Rattle.octets.specs.WritingLaws.{length_line}
+use Rattle.octets.proofs.WritingLaws.{length_line}
 use Rattle.policy.specs.declared.Record.{Record}
 use Rattle.policy.specs.Table.{Kind, head, user, edge, formula, demarcation, hierarchy, principal, exclusion, prerequisite, method, end}
 use Rattle.policy.specs.Table.{code, kinds, count, room, row}

@@ -5,7 +5,7 @@ use Rattle.std.proofs.Math.Path.{subst}
 use Rattle.std.proofs.lemmas.Bool.{false≢true}
 use Rattle.std.proofs.Math.ListN.{length-append}
 use Rattle.common.specs.Lists.{at}
-use Rattle.octets.specs.LineLaws.{totals_append}
+use Rattle.octets.proofs.LineLaws.{totals_append}
 use Rattle.octets.specs.Line.{Framed, kind_octet, body_of, totals, text_of}
 use Rattle.policy.specs.declared.Record.{Record}
 use Rattle.policy.specs.Table.{Kind, head, end, code, kind_of, kinds, appended, indexed}

@@ -5,7 +5,7 @@ use Rattle.std.proofs.lemmas.List.{map-append}
 use Rattle.common.specs.BoolLaws.{same_test}
 use Rattle.common.specs.Causes.{Cause, cause, first}
 use Rattle.common.specs.Refusals.{wrong_end}
-use Rattle.octets.specs.LineLaws.{totals_append}
+use Rattle.octets.proofs.LineLaws.{totals_append}
 use Rattle.octets.specs.Line.{Framed, octets, kind_octet, body_of, total, totals}
 use Rattle.policy.specs.Table.{Kind, head, code, is_kind, kind_of, count}
 use Rattle.policy.specs.TableLaws.{kind_of_code}

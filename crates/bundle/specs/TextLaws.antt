@@ -3,8 +3,8 @@ use Rattle.std.specs.Prelude.{ℕ, zero, suc, ◌*◌, ◌≤◌, ◌<◌, ◌�
 use Rattle.std.proofs.Common.{sym, ◌∙◌, ap, append_assoc, arith, length-append}
 use Rattle.common.specs.Lists.{table}
 use Rattle.octets.specs.Line.{octets, total, digits, framed, lines, totals, text_of}
-use Rattle.octets.specs.LineLaws.{lines_none, lines_cons}
-use Rattle.octets.specs.WritingLaws.{Octets, framed_octets, length_framed, reads_back, rest_follows}
+use Rattle.octets.proofs.LineLaws.{lines_none, lines_cons}
+use Rattle.octets.proofs.WritingLaws.{Octets, framed_octets, length_framed, reads_back, rest_follows}
 use Rattle.policy.specs.Table.{Kind, head, user, edge, formula, demarcation, hierarchy, principal, exclusion, prerequisite, method, end}
 use Rattle.policy.specs.Table.{code}
 use Rattle.policy.specs.Table.{widths}

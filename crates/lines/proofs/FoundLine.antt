@@ -15,9 +15,9 @@ use Rattle.common.specs.Refusals.{wrong_kind}
 use Rattle.octets.specs.Line.{Framed, refused, octets, kind_octet, total, line_of, frame}
 use Rattle.octets.specs.Number.{number}
 use Rattle.octets.specs.Answers.{HoldsLine}
-use Rattle.octets.specs.AnswerLaws.{held_octet}
-use Rattle.octets.specs.LineLaws.{accepted, refused_is}
-use Rattle.octets.specs.WritingLaws.{Octets, octets_of_pairs}
+use Rattle.octets.proofs.AnswerLaws.{held_octet}
+use Rattle.octets.proofs.LineLaws.{accepted, refused_is}
+use Rattle.octets.proofs.WritingLaws.{Octets, octets_of_pairs}
 use Rattle.lines.specs.declared.Next.{Next}
 use Rattle.lines.specs.declared.Next.TheVariants.{Other, Refused, Body}
 use Rattle.lines.specs.NextLine.{NextValues, no_line, refused_line, body_line, next_values, next_is, next_of, number_at}

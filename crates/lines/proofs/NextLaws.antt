@@ -14,10 +14,10 @@ use Rattle.common.specs.Lists.{at, table}
 use Rattle.common.specs.ListLaws.{zeros_at, zero_at}
 use Rattle.common.specs.Refusals.{wrong_kind}
 use Rattle.octets.specs.Line.{Framed, refused, octets, kind_octet, total, frame}
-use Rattle.octets.specs.LineLaws.{accepted, refused_is, next_line_lem, octet_at_lem}
+use Rattle.octets.proofs.LineLaws.{accepted, refused_is, next_line_lem, octet_at_lem}
 use Rattle.octets.specs.Answers.{octet_at, total_of_size}
 use Rattle.octets.specs.Number.{number}
-use Rattle.octets.specs.AnswerLaws.{AnswerOctets}
+use Rattle.octets.proofs.AnswerLaws.{AnswerOctets}
 use Rattle.lines.specs.NextLine.{NextValues, no_line, refused_line, body_line, next_of, other_is, other_refusal}
 use Rattle.lines.specs.NextLine.{octets_in, octets_at, number_at}
 use Rattle.lines.specs.Judging.{row_at}

@@ -6,7 +6,7 @@ use native.Mathlib.Omega.{arith}
 use native.Mathlib.Numerals.{add-one}
 use native.Mathlib.Nat.{pow-suc, pow-le-pow_right}
 use Rattle.common.specs.Lists.{at, table}
-use Rattle.octets.specs.NumberLaws.{number_last}
+use Rattle.octets.proofs.NumberLaws.{number_last}
 use Rattle.lines.specs.NextLine.{number_at}
 
 pub record Value (os : List ℕ) (k value i : ℕ) : Type 0 where

@@ -15,7 +15,7 @@ use Rattle.common.specs.Refusals.{wrong_kind, wrong_end}
 use Rattle.common.specs.Refusals as refusals
 use Rattle.closure.specs.Closure.{circular}
 use Rattle.octets.specs.Line.{Framed, refused, octets, kind_octet, rest_of, frame, lines}
-use Rattle.octets.specs.LineLaws.{accepted, lines_none, lines_cons}
+use Rattle.octets.proofs.LineLaws.{accepted, lines_none, lines_cons}
 use Rattle.policy.specs.declared.Record.{Record}
 use Rattle.policy.specs.Table.{hierarchy, prerequisite, end, code, rows, appended, indexed, kind_of}
 use Rattle.policy.specs.Rows.{in_range, row_causes}

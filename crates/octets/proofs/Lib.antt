@@ -1,3 +1,8 @@
+pub mod LineLaws
+pub mod AnswerLaws
+pub mod WritingLaws
+pub mod NumberLaws
+pub mod DamageLaws
 mod Octet
 mod Running
 mod Sized

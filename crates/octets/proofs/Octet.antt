@@ -4,7 +4,7 @@ use lib.ListN.{get_or-eq_default}
 use Rattle.common.specs.Lists.{at}
 use Rattle.common.specs.BoolLaws.{and_false}
 use Rattle.octets.specs.Line.{digit_value, octet}
-use Rattle.octets.specs.LineLaws.{value_below}
+use Rattle.octets.proofs.LineLaws.{value_below}
 use Rattle.octets.specs.Answers.{octet_of, octet_at}
 
 pub no_high : (a b : ℕ) → 16 ≤ digit_value a → octet_of a b ≡ 0

@@ -1,12 +1,12 @@
 -- Reading a line octet by octet: what the line is once the octets `os` have been read and the text `t` is left.
-use Rattle.std.proofs.Common.{◌≡◌, ℕ, suc, ◌+◌, ◌-◌, ◌*◌, ◌%◌, ◌^◌, ◌<◌, ◌≤◌, Bool, true, false, cond, ◌&&◌, eqb, ltb, ◌≢◌, ◌⊎◌, List, [], ◌∷◌, ◌++◌, length, drop, sym, refl, ap, ◌∙◌, inl, inr, ⊎_elim, append_assoc, append-nil, add-zero, zero-add, arith, length-append, drop_of_length-le, le-ltb, lt-ltb, ne_eqb, eqb-true}
+use Rattle.std.proofs.Common.{◌≡◌, ℕ, suc, ◌+◌, ◌*◌, ◌%◌, ◌^◌, ◌<◌, ◌≤◌, Bool, true, false, cond, ◌&&◌, eqb, ltb, ◌≢◌, ◌⊎◌, List, [], ◌∷◌, ◌++◌, length, drop, sym, refl, ap, ◌∙◌, inl, inr, ⊎_elim, append_assoc, append-nil, add-zero, zero-add, arith, length-append, drop_of_length-le, le-ltb, lt-ltb, ne_eqb, eqb-true}
 use Rattle.common.specs.Lists.{at}
 use Rattle.common.specs.ListLaws.{drop_one, drop_two}
 use Rattle.common.specs.BoolLaws.{and_false}
 use Rattle.common.specs.Refusals.{wrong_characters, wrong_length, wrong_sum}
 use Rattle.octets.specs.Line.{digit_value, is_digit, octet, line_of, ended, pairs, octets_of, total}
 use Rattle.octets.specs.Line.{Framed, refused, octets, judged, frame}
-use Rattle.octets.specs.LineLaws.{not_end}
+use Rattle.octets.proofs.LineLaws.{not_end}
 use Rattle.octets.specs.Answers.{refused_with, accepted_with, framed_values, values_at_end}
 
 -- a line l of which the octets os have been read already; e says whether it has an end

@@ -9,7 +9,7 @@ use Rattle.common.specs.Lists.{at}
 use Rattle.common.specs.ListLaws.{drop_one, drop_two}
 use Rattle.octets.specs.Line.{digit_value, octet, pairs, octets_of, total, ended, line_of}
 use Rattle.octets.specs.Line.{Framed, refused, octets, judged, frame}
-use Rattle.octets.specs.LineLaws.{next_line_lem}
+use Rattle.octets.proofs.LineLaws.{next_line_lem}
 use Rattle.octets.specs.Answers.{total_of_size, sized_at_end, HoldsLine}
 use Rattle.octets.proofs.Running.{from_text, from, start, more, at_end, other, other₂, line_more, from_none, total_more}
 

@@ -1,11 +1,11 @@
 -- Writing a line octet by octet: the digits of the octets written so far stand first, and the rest of the buffer is as it was.
-use Rattle.std.proofs.Common.{◌≡◌, ℕ, ◌+◌, ◌-◌, ◌*◌, ◌/◌, ◌%◌, ◌<◌, ◌≤◌, Bool, true, false, leb, List, [], ◌∷◌, ◌++◌, length, take, drop, set, sym, refl, ap, ◌∙◌, subst, subst₂, append_assoc, add-one, arith, length-append, length-set, length-take-le, take-suc, le-leb}
+use Rattle.std.proofs.Common.{◌≡◌, ℕ, ◌+◌, ◌*◌, ◌/◌, ◌%◌, ◌<◌, ◌≤◌, Bool, true, false, leb, List, [], ◌∷◌, ◌++◌, length, take, drop, set, sym, refl, ap, ◌∙◌, subst, subst₂, append_assoc, add-one, arith, length-append, length-set, length-take-le, take-suc, le-leb}
 use lib.Seq.{set_at, append_snoc, take-length}
 use borrow.Author.Tests.{lt-leb}
 use Rattle.common.specs.Lists.{at}
 use Rattle.common.specs.ListLaws.{drop_one, drop_two}
 use Rattle.octets.specs.Line.{total, digit, digits, check, framed, line_bytes}
-use Rattle.octets.specs.WritingLaws.{length_digits, length_framed, length_line, total_append}
+use Rattle.octets.proofs.WritingLaws.{length_digits, length_framed, length_line, total_append}
 use Rattle.octets.specs.Answers.{placed, has_room, written_length, written_buffer}
 
 pub record WrittenOctets (os before after : List ℕ) : Type 0 where

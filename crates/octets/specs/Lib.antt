@@ -4,8 +4,3 @@ pub mod Number
 pub mod Answers
 pub mod Damage
 pub mod Examples
-pub mod LineLaws
-pub mod AnswerLaws
-pub mod WritingLaws
-pub mod NumberLaws
-pub mod DamageLaws

@@ -14,7 +14,7 @@ use Rattle.common.specs.Lists.{at}
 use Rattle.common.specs.Causes.{first}
 use Rattle.common.specs.Refusals.{wrong_kind}
 use Rattle.octets.specs.Line.{kind_octet, body_of, lines}
-use Rattle.octets.specs.LineLaws.{accepted}
+use Rattle.octets.proofs.LineLaws.{accepted}
 use Rattle.policy.specs.declared.Record.{Record}
 use Rattle.policy.specs.Table.{head, code, is_kind, blank, appended, kind_of}
 use Rattle.rows.specs.Checks.{causes}

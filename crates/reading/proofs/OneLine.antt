@@ -13,7 +13,7 @@ use borrow.Author.Tests.{lt-ltb, le-ltb, eq-eqb, ne_eqb}
 use Rattle.common.specs.BoolLaws.{or_left, or_right}
 use Rattle.common.specs.Refusals.{wrong_kind}
 use Rattle.octets.specs.Line.{Framed, refused, octets, kind_octet, body_of, total, rest_of, frame, lines}
-use Rattle.octets.specs.LineLaws.{accepted, refused_is, next_line_lem, lines_cons}
+use Rattle.octets.proofs.LineLaws.{accepted, refused_is, next_line_lem, lines_cons}
 use Rattle.policy.specs.Table.{Kind, head, end, code, is_kind, count, kind_of}
 use Rattle.policy.specs.TableLaws.{kind_of_code}
 use Rattle.policy.specs.Rows.{row_causes, row_refusal}

@@ -10,7 +10,7 @@ use native.Mathlib.Decide.{ℕ_discrete}
 use lib.ListN.{drop}
 use borrow.Author.Tests.{ne_eqb}
 use Rattle.octets.specs.Line.{octets, kind_octet, total, frame, lines}
-use Rattle.octets.specs.LineLaws.{accepted}
+use Rattle.octets.proofs.LineLaws.{accepted}
 use Rattle.policy.specs.declared.Record.{Record}
 use Rattle.policy.specs.Table.{Kind, head, end, code, is_kind, count, room, appended, kind_of}
 use Rattle.policy.specs.LinesBefore.{lines_before, following, lines_following, lines_most, none_between, code_rises}

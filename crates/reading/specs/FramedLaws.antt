@@ -3,9 +3,9 @@ use Rattle.std.specs.Prelude.{ℕ, ◌+◌, ◌%◌, ◌≤◌, ◌≡◌, Bool,
 use Rattle.std.proofs.Common.{sym, subst}
 use Rattle.common.specs.Lists.{at}
 use Rattle.octets.specs.Line.{Framed, refused, octets, total, line_of, starts, later_lines, lines}
-use Rattle.octets.specs.LineLaws.{Accepted, LineJudged, frame_judged}
-use Rattle.octets.specs.LineLaws.LineJudged.{accepts, refuses}
-use Rattle.octets.specs.WritingLaws.{Octets, octets_of_pairs}
+use Rattle.octets.proofs.LineLaws.{Accepted, LineJudged, frame_judged}
+use Rattle.octets.proofs.LineLaws.LineJudged.{accepts, refuses}
+use Rattle.octets.proofs.WritingLaws.{Octets, octets_of_pairs}
 
 -- octets with the length octet and the sum right
 pub record Fine (os : List ℕ) : Type 0 where

@@ -9,7 +9,7 @@ use lib.Seq.{take_all, drop-drop, drop-length}
 use borrow.Author.Tests.{le-leb}
 use borrow.Rule.Slice.PartMut.{put_mid, same_len_mid}
 use Rattle.octets.specs.Line.{total, framed, line_bytes, text_of}
-use Rattle.octets.specs.WritingLaws.{length_line}
+use Rattle.octets.proofs.WritingLaws.{length_line}
 use Rattle.octets.specs.Answers.{has_room, written_length, written_buffer}
 use Rattle.writing.specs.declared.Draft.{Draft}
 use Rattle.writing.specs.Drafts.{longest_body, greatest_total, RoomFor, Put}

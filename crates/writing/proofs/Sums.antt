@@ -8,7 +8,7 @@ use lib.ListN.{length, take}
 use lib.Seq.{take-suc, take_all}
 use Rattle.common.specs.Lists.{at}
 use Rattle.octets.specs.Line.{total, check, framed}
-use Rattle.octets.specs.WritingLaws.{total_append}
+use Rattle.octets.proofs.WritingLaws.{total_append}
 
 -- the length, the kind and so many octets of the body have been added
 pub record Summed (kind : ℕ) (body : List ℕ) (sum i : ℕ) : Type 0 where

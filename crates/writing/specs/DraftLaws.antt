@@ -4,8 +4,8 @@ use Rattle.std.proofs.Common.{sym, ◌∙◌, ap, subst, append_assoc, arith, ze
 use Rattle.std.proofs.Math.Seq.{take-append-add, take-append_seam, drop-append-add}
 use Rattle.common.specs.Lists.{table}
 use Rattle.common.specs.ListLaws.{length_table}
-use Rattle.octets.specs.LineLaws.{totals_append}
-use Rattle.octets.specs.Line.{framed, line_bytes, text_of, totals}
+use Rattle.octets.proofs.LineLaws.{totals_append}
+use Rattle.octets.specs.Line.{framed, line_bytes, text_of}
 use Rattle.writing.specs.declared.Draft.{Draft}
 use Rattle.writing.specs.Drafts.{longest_body, RoomFor, Put}
 

@@ -7,7 +7,7 @@ use borrow.Author.Rules.{rules}
 use Rattle.common.specs.Lists.{at}
 use Rattle.octets.specs.Line.{kind_octet, frame}
 use Rattle.octets.specs.Answers.{sized_total, total_of_size}
-use Rattle.octets.specs.AnswerLaws.{held_octet}
+use Rattle.octets.proofs.AnswerLaws.{held_octet}
 use Rattle.lines.specs.Judging.{judged_row}
 use Rattle.lines.proofs.FoundLine.{sum_most}
 use Rattle.lines.proofs.JudgedLine.{says_other, says_refused, of_body}

@@ -7,7 +7,7 @@ use borrow.Author.Rules.{rules}
 use Rattle.common.specs.Lists.{at}
 use Rattle.octets.specs.Line.{kind_octet, frame}
 use Rattle.octets.specs.Answers.{sized_total, total_of_size}
-use Rattle.octets.specs.AnswerLaws.{held_octet}
+use Rattle.octets.proofs.AnswerLaws.{held_octet}
 use Rattle.lines.proofs.NextLaws.{OfSize, of_size, of_size_some, of_size_next, next_other, next_body}
 use Rattle.lines.proofs.NextLaws.{left_refused, left_other}
 use Rattle.lines.proofs.next_line.Statement.{statement}

@@ -1,6 +1,6 @@
 -- `other_refusal` meets its contract: each way out is a case of `other_refusal`.
 use borrow.Author.Rules.{rules}
-use Rattle.octets.specs.AnswerLaws.{answer_refused, answer_octets_lem}
+use Rattle.octets.proofs.AnswerLaws.{answer_refused, answer_octets_lem}
 use Rattle.lines.proofs.NextLaws.{other_end, other_refused, other_kind, own_kind}
 use Rattle.lines.proofs.other_refusal.Statement.{statement}
 use Rattle.lines.proofs.other_refusal.Tie as tie

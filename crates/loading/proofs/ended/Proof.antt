@@ -2,7 +2,7 @@
 use mathlib.Core.Path.{◌∙◌}
 use native.Mathlib.Omega.{arith}
 use borrow.Author.Rules.{rules}
-use Rattle.octets.specs.AnswerLaws.{answer_refused, answer_octets_lem}
+use Rattle.octets.proofs.AnswerLaws.{answer_refused, answer_octets_lem}
 use Rattle.loading.proofs.Ends.{ended_refused, ended_more, ended_circle, ended_well}
 use Rattle.loading.proofs.ended.Statement.{statement}
 use Rattle.loading.proofs.ended.Tie as tie

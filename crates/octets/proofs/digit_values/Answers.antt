@@ -2,12 +2,8 @@
 use Rattle.std.proofs.Common.{refl}
 use Rattle.octets.specs.Line.{digit_value}
 use Rattle.octets.specs.DigitTable.{each_entry}
-use Rattle.octets.proofs.digit_values.Statement.{statement}
-use Rattle.octets.proofs.digit_values.Tie as tie
+use Rattle.octets.proofs.digit_values.Goals as goal
 
-returns : tie.Need-returns
+pub returns : goal.returns
 unfolding digit_value
 returns c = each_entry _ refl
-
-pub digit_values_spec : {M : Type 1} → statement M
-digit_values_spec = tie.close (tie.spec returns)

@@ -3,7 +3,7 @@ use Rattle.std.specs.Prelude.{◌≡◌, ℕ, zero, suc, ◌+◌, ◌*◌, ◌/�
 use Rattle.std.proofs.Common.{sym, ◌∙◌, ap, subst, arith, pow-suc, length-append, length-take-le}
 use Rattle.common.specs.Lists.{at}
 use Rattle.octets.specs.Number.{number_from, number, in_octets}
-use Rattle.octets.specs.WritingLaws.{Octets, octets_append, octets_take, last_of, octet_at_index}
+use Rattle.octets.proofs.WritingLaws.{Octets, octets_append, octets_take, last_of, octet_at_index}
 
 -- one octet more, at the low end
 pub number_last : (v : ℕ) (os : List ℕ) (o : ℕ) → number_from v (os ++ (o ∷ [])) ≡ number_from v os * 256 + o

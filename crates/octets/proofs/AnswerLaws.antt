@@ -5,7 +5,7 @@ use Rattle.std.proofs.Math.Option.{some}
 use Rattle.std.proofs.Math.ListN.{get_or-append}
 use Rattle.common.specs.Lists.{at}
 use Rattle.octets.specs.Line.{Framed, refused, octets, total, frame}
-use Rattle.octets.specs.LineLaws.{refused_is}
+use Rattle.octets.proofs.LineLaws.{refused_is}
 use Rattle.octets.specs.Answers.{LineValues, line_values, framed_values, sized_total, HoldsLine}
 use Rattle.octets.specs.declared.Line.{Line}
 use Rattle.octets.specs.declared.Line.TheVariants.{Refused, Octets}

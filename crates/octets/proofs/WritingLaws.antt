@@ -1,5 +1,5 @@
 -- Laws of writing: lengths; a written line reads back as the octets written; and a line that is accepted is the one its octets write.
-use Rattle.std.specs.Prelude.{◌≡◌, ℕ, zero, suc, ◌+◌, ◌-◌, ◌*◌, ◌/◌, ◌%◌, ◌<◌, ◌≤◌, Bool, true, false, cond, ◌≢◌, ◌⊎◌, List, [], ◌∷◌, ◌++◌, length, take, ◌==◌, refl}
+use Rattle.std.specs.Prelude.{◌≡◌, ℕ, zero, suc, ◌+◌, ◌-◌, ◌*◌, ◌/◌, ◌%◌, ◌<◌, ◌≤◌, Bool, true, false, cond, ◌⊎◌, List, [], ◌∷◌, ◌++◌, length, take, ◌==◌, refl}
 use Rattle.std.proofs.Math.Path.{sym}
 use Rattle.std.proofs.Common.{◌∙◌, ap, subst, inl, inr, ⊎_elim, length-append, length-take-le, lt-ltb, le-ltb, ne_eqb, eqb-true}
 use Rattle.std.proofs.lemmas.Bool.{false≢true}
@@ -8,7 +8,7 @@ use Rattle.std.proofs.Math.Decide.{dec_lt}
 use Rattle.common.specs.Lists.{at}
 use Rattle.octets.specs.Line.{digit_value, octet, octets_of, total, line_of, rest_of, ended, octets, frame, kind_octet, body_of}
 use Rattle.octets.specs.Line.{digit, digits, check, framed, line_bytes}
-use Rattle.octets.specs.LineLaws.{value_number, value_letter, digit_is, not_end, Pairs, accepted, accept}
+use Rattle.octets.proofs.LineLaws.{value_number, value_letter, digit_is, not_end, Pairs, accepted, accept}
 
 -- ---- lengths and sums
 

@@ -1,14 +1,14 @@
 -- THE THEOREM on one altered byte: a text all of whose lines are well framed, with exactly one byte altered,
 -- has a line that is refused with 1, 2 or 3.
-use Rattle.std.specs.Prelude.{◌≡◌, ℕ, zero, suc, ◌+◌, ◌-◌, ◌%◌, ◌<◌, ◌≤◌, Bool, true, false, cond, ◌||◌, ◌≢◌, ◌⊎◌, List, [], ◌∷◌, ◌++◌, length, ◌==◌, refl}
+use Rattle.std.specs.Prelude.{◌≡◌, ℕ, zero, suc, ◌+◌, ◌%◌, ◌<◌, ◌≤◌, Bool, true, false, cond, ◌||◌, ◌≢◌, ◌⊎◌, List, [], ◌∷◌, ◌++◌, length, ◌==◌, refl}
 use Rattle.std.proofs.Common.{sym, ◌∙◌, ap, subst, inl, inr, ⊎_elim, arith, length-append, eqb-true, le-leb}
 use Rattle.std.proofs.lemmas.Bool.{false≢true}
 use Rattle.std.proofs.Math.Decide.{dec_lt}
 use Rattle.common.specs.Lists.{at, any, every}
 use Rattle.common.specs.BoolLaws.{and_cases, or_right}
 use Rattle.octets.specs.Line.{digit_value, line_of, rest_of, ended, octets_of, total, Framed, refused, octets, frame, lines}
-use Rattle.octets.specs.LineLaws.{digit_is, Pairs, pairs_even, Accepted, LineJudged, frame_judged, lines_cons}
-use Rattle.octets.specs.LineLaws.LineJudged.{accepts, refuses}
+use Rattle.octets.proofs.LineLaws.{digit_is, Pairs, pairs_even, Accepted, LineJudged, frame_judged, lines_cons}
+use Rattle.octets.proofs.LineLaws.LineJudged.{accepts, refuses}
 use Rattle.octets.specs.Damage.{OneAltered, is_accepted, is_refused, well_framed, has_refused_line}
 use Rattle.octets.specs.Damage.OneAltered.{this, next}
 
