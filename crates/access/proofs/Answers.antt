@@ -16,13 +16,16 @@ use Rattle.common.specs.SetLaws.{member_in, in_member}
 use Rattle.policy.specs.declared.Record.{Record}
 use Rattle.policy.specs.declared.Memo.{Memo}
 use Rattle.policy.specs.Table.{Kind, formula, with_memo}
-use Rattle.policy.specs.Loadable.{table_loads}
+use Rattle.policy.specs.Loadable.{table_loads, loadable}
 use Rattle.policy.specs.LoadableLaws.{table_few}
 use Rattle.formula.specs.Formula.{holds_role}
 use Rattle.formula.specs.EvaluationLaws.{true_at_holds}
 use Rattle.justification.specs.Justification.{members, candidates, least}
 use Rattle.justification.specs.declared.Question.{Question}
-use Rattle.justification.specs.Predicates.{question_refusal}
+use Rattle.justification.specs.Predicates.{question_refusal, refusal_of}
+use Rattle.justification.specs.Masked.{Masked}
+use Rattle.justification.proofs.Asking.{Asked, asked as may_be_asked, refusal_is}
+use Rattle.search.specs.declared.Masks.{Masks}
 use Rattle.policy.specs.NamedLaws.{principal_named}
 use Rattle.justification.specs.MarkedSets.{Marks}
 use Rattle.memo.specs.Memo.{known, value}
@@ -52,6 +55,15 @@ truth_same r q roles loads held p l =
 -- every principal's formula has an index in the memo
 pub formula_small : (r : Record) → ((j : Kind) → table_loads r j ≡ true) → (p : ℕ) → p < r.principal_count → formula_of r p < most_formulas
 formula_small r loads p l = let (f, d) = principal_named r loads p l in let few = table_few r formula (loads formula) in omega arith
+
+-- past the test of the number: the question may be put
+pub past_refusal : (r : Record) (q : Question) {loads : Bool} {n : ℕ} → loads ≡ loadable r
+    → n ≡ refusal_of loads r.method_count r.objects r.user_count r.user_objects q → n ≡ 0 → Asked r q
+past_refusal r q e h z = may_be_asked r q (sym (refusal_is r q e h) ∙ z)
+
+-- masks made for a method's index are the method's
+pub masked_at : (r : Record) {m k : ℕ} {masks : Masks} → m ≡ k → Masked r m 0 masks → Masked r k 0 masks
+masked_at r {masks = masks} e h = subst (λ (m : ℕ). Masked r m 0 masks) e h
 
 module _ (r : Record) (q : Question) where
   pub eager_refused : {n : ℕ} → n ≡ question_refusal r q → n ≢ 0 → refused n r ≡ eager r q

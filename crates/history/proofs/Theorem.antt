@@ -35,7 +35,7 @@ use Rattle.search.specs.Search.{Before}
 use Rattle.search.proofs.SearchLaws.{before_members, before_role_count}
 use Rattle.tickets.specs.declared.Ticket.{Ticket}
 use Rattle.tickets.specs.Tickets.{ticket_of, ticket_refusal, SetNumber}
-use Rattle.tickets.specs.TicketLaws.{set_number, ticket_after}
+use Rattle.tickets.proofs.TicketLaws.{set_number, ticket_after}
 use Rattle.history.specs.Book.{Call, add, remove, ask_eagerly, ask_lazily, check_ticket, Book, BookAnswer, first_book, holds_edge}
 use Rattle.history.specs.Book.{add_refusal, remove_refusal, check_refusal}
 use Rattle.history.specs.Book.{ask_refusal, verdict, enabled_in, ask, book_after_call, book_after, number_and_set, engine_leaves, engine_after}

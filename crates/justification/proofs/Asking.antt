@@ -86,6 +86,11 @@ module _ (r : Record) (q : Question) where
       go true ea false eb z = record { loads = ea; method = omega (arith, leb-false r.method_count q.method eb) }
       go false ea b eb z = let x : not_loadable ≡ 0 = sym (rw ea refl) ∙ z in absurd (omega arith)
 
+  -- so where no number refuses it
+  pub asked_by : {loads : Bool} {n : ℕ} → loads ≡ loadable r
+      → n ≡ refusal_of loads r.method_count r.objects r.user_count r.user_objects q → n ≡ 0 → Asked
+  asked_by e h z = asked (sym (refusal_is e h) ∙ z)
+
   -- ---- the verdicts
 
   pub liberal_refused : {n : ℕ} → n ≡ question_refusal r q → n ≢ 0 → record { number = n; yes = false } ≡ liberal r q

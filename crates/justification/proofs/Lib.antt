@@ -1,3 +1,5 @@
+pub mod MaskLaws
+pub mod GuardLaws
 pub mod Marking
 mod Excluding
 pub mod Asking

@@ -15,7 +15,7 @@ use Rattle.justification.specs.Justification.{has_below, is_role_principal_in}
 use Rattle.justification.specs.Satisfying.{AmongPairs}
 use Rattle.justification.specs.Masked.{Masked, Grounds, grounds_of}
 use Rattle.justification.specs.MarkedSets.{Marks}
-use Rattle.justification.specs.GuardLaws.{granted_below}
+use Rattle.justification.proofs.GuardLaws.{granted_below}
 
 -- the masks by their columns, each part as the function that makes it says
 pub record MaskedBy (g : Grounds) (m allowed : ℕ) (s : Masks) : Type 0 where

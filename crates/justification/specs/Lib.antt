@@ -8,5 +8,3 @@ pub mod EnabledLaws
 pub mod MarkedSets
 pub mod RoleCountLaws
 pub mod OrderFact
-pub mod MaskLaws
-pub mod GuardLaws

@@ -12,7 +12,7 @@ use Rattle.common.specs.SetLaws.{member_in, in_member, in_lt, all_lt}
 use Rattle.policy.specs.declared.Record.{Record}
 use Rattle.policy.specs.Table.{exclusion, rows, row}
 use Rattle.justification.specs.Justification.{members, demarcation_has, have, listed, meets, needs, consistent}
-use Rattle.justification.specs.Satisfying.{excluded, IsConsistent, SomeHas, GuardMet, AllEnabled, Satisfies}
+use Rattle.justification.specs.Satisfying.{excluded, IsConsistent, SomeHas, GuardMet, Satisfies}
 
 not_both : (x y : Bool) → (not (x && y) ≡ true ↔ (x ≡ true → y ≡ true → ⊥))
 not_both true true = (λ e t u. false≢true e, λ h. absurd (h refl refl))

@@ -4,19 +4,30 @@ use mathlib.Core.Path.{◌≡◌, refl, sym, ◌∙◌, ap, subst}
 use mathlib.Core.Logic.{◌↔◌}
 use mathlib.Core.Bool.{Bool, true, false, false≢true, not}
 use mathlib.Core.List.{List, [], ◌∷◌}
+use native.Mathlib.Omega.{arith}
 use lib.Dec.{eqb}
 use borrow.Author.Tests.{eq-eqb, ne_eqb}
+use Rattle.common.specs.Limits.{most_methods}
 use Rattle.common.specs.Lists.{at, any}
 use Rattle.common.specs.BoolLaws.{same_test}
 use Rattle.common.specs.Sets.{In}
 use Rattle.common.specs.SetLaws.{none_in_zero, some_in}
 use Rattle.policy.specs.declared.Record.{Record}
+use Rattle.policy.specs.Table.{method}
+use Rattle.policy.specs.LoadableLaws.{table_few, loadable_table}
 use Rattle.search.specs.Steps.{Decides, MetBy, Gathers}
 use Rattle.justification.specs.Justification.{demarcation_has, have, meets}
 use Rattle.justification.specs.declared.Question.{Question}
 use Rattle.justification.specs.Predicates.{is_enabled, enabled}
 use Rattle.justification.specs.MarkedSets.{Those}
-use Rattle.justification.specs.GuardLaws.{guard_met, enabled_gather, one_meets_is}
+use Rattle.justification.proofs.GuardLaws.{guard_met, enabled_gather, one_meets_is}
+use Rattle.justification.proofs.Asking.{Asked}
+
+-- where the question may be put, its method is one of thirty-two
+pub method_few : {r : Record} {q : Question} {m : ℕ} → Asked r q → m ≡ q.method → m < most_methods
+method_few {r} may e = let n = table_few r method (loadable_table r may.loads method) in omega (arith, e, may.method)
+
+-- ---- the verdicts
 
 -- a set that is not 0 has a member, and the reverse
 not_empty : (e : ℕ) → not (eqb e 0) ≡ true → e ≡ 0 → ⊥

@@ -1,19 +1,17 @@
 -- The tests of `check_given` say what the definition's tests say.
 use Prim.Native.Nat.{ℕ, ◌/◌, ◌^◌, ◌<◌, ◌≤◌}
 use mathlib.Core.Path.{◌≡◌, refl, sym, ◌∙◌}
-use mathlib.Core.Bool.{Bool, true, false, false≢true, not, cond, ◌&&◌}
-use mathlib.Core.List.{[], ◌∷◌}
+use mathlib.Core.Bool.{Bool, true, false, false≢true}
 use mathlib.Core.Logic.{◌≢◌, ◌↔◌}
 use native.Mathlib.Nat.{div-eq_of_lt, le-div_iff_mul-le}
 use native.Mathlib.Omega.{arith}
 use lib.Dec.{ltb, eqb}
 use lib.Pow.{pow_pos}
-use borrow.Author.Tests.{ltb-true, ltb-false, lt-ltb, eq-eqb, ne_eqb}
+use borrow.Author.Tests.{ltb-true, ltb-false, eq-eqb, ne_eqb}
 use Rattle.common.specs.Lists.{every}
 use Rattle.common.specs.QuantifierLaws.{all_of_lem}
 use Rattle.common.specs.Sets.{member, In}
 use Rattle.common.specs.SetLaws.{member_in, in_member}
-use Rattle.common.specs.Causes.{cause, first}
 use Rattle.common.specs.Refusals.{not_enabled, not_consistent, guard_not_met}
 use Rattle.policy.specs.declared.Record.{Record}
 use Rattle.search.specs.Steps.{Decides}

@@ -1,1 +1,2 @@
+pub mod TicketLaws
 mod Checking
