@@ -5,7 +5,7 @@ use mathlib.Core.Logic.{◌↔◌, ◌≢◌, ◌⊎◌, inl, inr, ⊎_elim}
 use native.Mathlib.Nat.{eq-or-lt_of_le}
 use native.Mathlib.Omega.{arith}
 use Rattle.closure.specs.Closure.{Rel, Star, here, step, Circle, Below, Closes}
-use Rattle.closure.specs.ClosureFact.{star_trans, star_one}
+use Rattle.closure.proofs.ClosureFact.{star_trans, star_one}
 
 -- C after the numbers below k have been gone through: R is in it, it is reflexive there and transitive through them, and what is in it
 -- beside R is between numbers below n and within the closure

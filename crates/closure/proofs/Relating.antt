@@ -2,7 +2,7 @@
 -- A pair is put in, or passed over where it names a thing beyond those that there are.
 use Prim.Native.Nat.{ℕ, ◌+◌, ◌≤◌, ◌<◌}
 use mathlib.Core.Path.{◌≡◌, refl, sym, ◌∙◌, ap, subst₂}
-use mathlib.Core.Logic.{◌↔◌, ◌⊎◌, inl, inr, ⊎_elim}
+use mathlib.Core.Logic.{◌⊎◌, inl, inr, ⊎_elim}
 use mathlib.Core.Bool.{Bool, true, false, false≢true}
 use mathlib.Core.List.{List, []}
 use native.Mathlib.Omega.{arith}
@@ -10,7 +10,7 @@ use lib.ListN.{length, get_or, replicate, get_or-replicate}
 use Rattle.common.specs.Limits.{most_related}
 use Rattle.common.specs.Lists.{at}
 use Rattle.closure.specs.Closure.{On, pairs_of, Relates}
-use Rattle.closure.specs.ClosureFact.{pairs_more}
+use Rattle.closure.proofs.ClosureFact.{pairs_more}
 use Rattle.closure.proofs.Square.{Square, put, square_put, with_put}
 
 pub record Relating (firsts seconds : List ℕ) (e : ℕ) (m : List (List Bool)) : Type 0 where

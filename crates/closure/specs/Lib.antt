@@ -1,3 +1,2 @@
 -- Relations on numbers, their closures and circles; and the same for lists of pairs.
 pub mod Closure
-pub mod ClosureFact

@@ -9,7 +9,7 @@ use lib.ListN.{get_or}
 use Rattle.common.specs.Limits.{most_related, most_pairs}
 use Rattle.common.specs.Lists.{at}
 use Rattle.closure.specs.Closure.{On, Listed, pairs_of, Closes, reaches}
-use Rattle.closure.specs.ClosureFact.{closed_reaches}
+use Rattle.closure.proofs.ClosureFact.{closed_reaches}
 use Rattle.tables.specs.Loads.{pairs_load}
 use Rattle.tables.specs.LoadsLaws.{pairs_named, pairs_relation}
 use Rattle.justification.specs.MarkedSets.{Marks}

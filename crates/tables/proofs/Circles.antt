@@ -8,7 +8,7 @@ use native.Mathlib.Omega.{arith}
 use Rattle.common.specs.Limits.{most_related, most_pairs}
 use Rattle.common.specs.BoolLaws.{same_test}
 use Rattle.closure.specs.Closure.{On, Listed, pairs_of, Star, Below, Circle, circular}
-use Rattle.closure.specs.ClosureFact.{circle_circular}
+use Rattle.closure.proofs.ClosureFact.{circle_circular}
 use Rattle.tables.specs.Loads.{pairs_load}
 use Rattle.tables.specs.LoadsLaws.{pairs_named, pairs_proper, pairs_relation}
 

@@ -8,7 +8,7 @@ use Rattle.common.specs.ListLaws.{every_more}
 use Rattle.common.specs.BoolLaws.{and_cases}
 use Rattle.common.specs.Causes.{first}
 use Rattle.closure.specs.Closure.{On, Listed, pairs_of}
-use Rattle.closure.specs.ClosureFact.{listed_append}
+use Rattle.closure.proofs.ClosureFact.{listed_append}
 use Rattle.rows.specs.Checks.{causes, pair_in_range}
 use Rattle.tables.specs.Loads.{lines_load, minimum_at, rising_refusal, no_limit, pair_fits, pair_keys, pairs_load}
 
