@@ -1,11 +1,11 @@
 -- What the two edits answer: by the place found for the edge, what refuses them and the record of an accepted one.
 use Prim.Native.Nat.{ℕ, suc, ◌+◌, ◌-◌, ◌≤◌, ◌<◌}
-use mathlib.Core.Path.{◌≡◌, refl, sym, ◌∙◌, ap}
+use mathlib.Core.Path.{◌≡◌, refl, sym, ◌∙◌, ap, subst}
 use mathlib.Core.Bool.{Bool, true, false, not}
-use mathlib.Core.List.{List, [], ◌∷◌, ◌++◌, map}
+use mathlib.Core.List.{List, [], ◌∷◌, ◌++◌}
 use native.Mathlib.Omega.{arith}
 use native.Mathlib.Numerals.{add-one}
-use lib.ListN.{length, take, drop, length-append, length-take, length-drop, length-map}
+use lib.ListN.{length, take, drop, length-append, length-take, length-drop}
 use lib.Dec.{ltb, leb}
 use borrow.Author.Tests.{ltb-true, ne_eqb}
 use Rattle.common.specs.Limits.{most_edges}
@@ -31,12 +31,19 @@ use Rattle.policy.specs.EdgeRows.{row_of, with_value, without_value, InOrder, Pl
 use Rattle.policy.proofs.EdgeRows.{row_within, row_found, row_absent, row_present}
 use Rattle.policy.specs.RecordIndexLaws.{at_column, index_less, less_put, rising_columns, loadable_indexed}
 use Rattle.policy.specs.ColumnLaws.{labels_column, sources_column, targets_column}
+use Rattle.policy.proofs.Fields.{Columns}
 use Rattle.policy.proofs.Columns.{column_more, column_less}
 
 pub loadable_ordered : (r : Record) → loadable r ≡ true → InOrder r.objects r.edge_count (rows edge r)
 loadable_ordered r loads = record { few = table_few r edge (loadable_table r loads edge); rising = loadable_rising r loads }
 
 -- ---- what refuses, by the place found
+
+-- the place, where the test whether some bundle loads to the record has been made before
+pub placed_as : (r : Record) (l x y : ℕ) {b : Bool} {number at_row : ℕ} {present : Bool} → b ≡ loadable r
+    → Placed b r.objects (rows edge r) l x y number at_row present → Placed (loadable r) r.objects (rows edge r) l x y number at_row present
+placed_as r l x y {number = number} {at_row = at_row} {present = present} e p =
+    subst (λ (b : Bool). Placed b r.objects (rows edge r) l x y number at_row present) e p
 
 module _ (r : Record) (l x y : ℕ) where
   pub adds_at : {number at_row : ℕ} {present : Bool} → Placed (loadable r) r.objects (rows edge r) l x y number at_row present
@@ -104,15 +111,9 @@ pub record EdgeColumnLengths (r : Record) : Type 0 where
   pub sources : length r.edge_sources ≡ most_edges
   pub targets : length r.edge_targets ≡ most_edges
 
--- a field's length, as owning the record tells it
-kept : (c : List ℕ) → length (map (λ (v : ℕ). v) c) ≡ most_edges → length c ≡ most_edges
-kept c e = sym (length-map c (λ v. v)) ∙ e
-
-pub lengths_of : (r : Record) → length (map (λ (v : ℕ). v) r.edge_labels) ≡ most_edges
-    → length (map (λ (v : ℕ). v) r.edge_sources) ≡ most_edges
-    → length (map (λ (v : ℕ). v) r.edge_targets) ≡ most_edges → EdgeColumnLengths r
-lengths_of r a b c =
-    record { labels = kept r.edge_labels a; sources = kept r.edge_sources b; targets = kept r.edge_targets c }
+-- they have the lengths of their arrays
+pub lengths_of : (r : Record) → Columns r → EdgeColumnLengths r
+lengths_of r c = record { labels = c.labels.long; sources = c.sources.long; targets = c.targets.long }
 
 module _ (r : Record) (l x y : ℕ) {k number at_row : ℕ} {present : Bool}
     (place : Placed (loadable r) r.objects (rows edge r) l x y number at_row present) where

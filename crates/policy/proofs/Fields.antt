@@ -1,19 +1,23 @@
 -- What owning a record says of it: it is `Typed`.
 use Prim.Native.Nat.{ℕ, zero, suc, ◌<◌, ◌^◌}
-use mathlib.Core.Path.{◌≡◌, sym, ◌∙◌, ap}
-use mathlib.Core.List.{List, [], ◌∷◌, map, map-id}
+use mathlib.Core.Path.{◌≡◌}
+use mathlib.Core.List.{List, [], ◌∷◌}
 use native.Mathlib.Omega.{arith}
 use lib.ListN.{length}
 use lib.Dec.{T, leb}
 use mir.Syntax.{Width, w8, w16, w64}
 use mir.Val.{Val, bits}
 use denote.Shadow.{shadow}
+use denote.RattleType.{owns, Valss}
+use denote.Struct.Declared.{shape}
 use denote.Struct.Field.{uint_field, array_field}
-use borrow.Author.Rules.{elem_fits_field}
+use borrow.Author.Rules.{elem_Fits}
 use Rattle.common.specs.Limits.{most_users, most_edges, most_formulas, most_demarcations, most_pairs, most_principals, most_exclusions}
-use Rattle.common.specs.Limits.{most_methods}
+use Rattle.common.specs.Limits.{most_methods, label_count}
 use Rattle.common.specs.Lists.{at}
+use Rattle.edge_index.specs.Index.{IndexLengths}
 use Rattle.policy.specs.declared.Record.{Record}
+use Rattle.policy.specs.contracts.Record.{the_type}
 use Rattle.policy.specs.Table.{Kind, head, user, edge, formula, demarcation, hierarchy, principal, exclusion, prerequisite, method, end}
 use Rattle.policy.specs.Table.{row, widths}
 use Rattle.policy.specs.TableLaws.{sized}
@@ -25,8 +29,8 @@ pub record Column (w : Width) (n : ℕ) (c : List ℕ) : Type 0 where
   pub low : (i : ℕ) → at c i < 2 ^ bits w
 
 pub column : (w : Width) (n : ℕ) (c : List ℕ) (vs : List Val) → T (leb (bits w) (bits w))
-    → shadow ((array_field (uint_field w) n).row.own_val (map (λ (v : ℕ). v) c) vs) → Column w n c
-column w n c vs t p = record { long = ap length (sym (map-id c)) ∙ p.1.0.1; low = λ i. (elem_fits_field w w c p.0 i p.1.1 t).fits }
+    → shadow ((array_field (uint_field w) n).row.own_val c vs) → Column w n c
+column w n c vs t p = record { long = p.1.0.1; low = λ i. (elem_Fits w w c p.0 i p.1.1 t).fits }
 
 pub record Columns (r : Record) : Type 0 where
   pub objects : r.objects < 256
@@ -77,3 +81,44 @@ typed {r} c =
     fits prerequisite i = (c.needs.low i, (c.dependents.low i, tt))
     fits method i = (c.forms.low i, (c.methods.low i, tt))
     fits end i = (omega arith, (omega arith, tt))
+
+-- the fields of a record that is owned, in their order
+abbrev pub Owned : (r : Record) → Valss (shape the_type).fields → Type 0
+Owned r vs = shadow (owns (shape the_type).fields (the_type.to r) vs)
+
+-- its columns, by the places of its fields, counted from 0
+pub owned_columns : (r : Record) (vs : Valss (shape the_type).fields) → Owned r vs → Columns r
+owned_columns r vs f =
+    record {
+      objects = f.0.1;
+      user_objects_lem = column w8 _ _ _ tt f.1.1.0;
+      user_roles_lem = column w16 _ _ _ tt f.1.1.1.0;
+      labels = column w8 _ _ _ tt f.1.1.1.1.1.0;
+      sources = column w8 _ _ _ tt f.1.1.1.1.1.1.0;
+      targets = column w8 _ _ _ tt f.1.1.1.1.1.1.1.0;
+      ops = column w8 _ _ _ tt f.1.1.1.1.1.1.1.1.1.0;
+      lefts = column w8 _ _ _ tt f.1.1.1.1.1.1.1.1.1.1.0;
+      rights = column w8 _ _ _ tt f.1.1.1.1.1.1.1.1.1.1.1.0;
+      demarcations = column w64 _ _ _ tt f.1.1.1.1.1.1.1.1.1.1.1.1.1.0;
+      inferiors = column w8 _ _ _ tt f.1.1.1.1.1.1.1.1.1.1.1.1.1.1.1.0;
+      superiors = column w8 _ _ _ tt f.1.1.1.1.1.1.1.1.1.1.1.1.1.1.1.1.0;
+      formulas = column w8 _ _ _ tt f.1.1.1.1.1.1.1.1.1.1.1.1.1.1.1.1.1.1.0;
+      grants = column w8 _ _ _ tt f.1.1.1.1.1.1.1.1.1.1.1.1.1.1.1.1.1.1.1.0;
+      lows = column w8 _ _ _ tt f.1.1.1.1.1.1.1.1.1.1.1.1.1.1.1.1.1.1.1.1.1.0;
+      highs = column w8 _ _ _ tt f.1.1.1.1.1.1.1.1.1.1.1.1.1.1.1.1.1.1.1.1.1.1.0;
+      needs = column w8 _ _ _ tt f.1.1.1.1.1.1.1.1.1.1.1.1.1.1.1.1.1.1.1.1.1.1.1.1.0;
+      dependents = column w8 _ _ _ tt f.1.1.1.1.1.1.1.1.1.1.1.1.1.1.1.1.1.1.1.1.1.1.1.1.1.0;
+      forms = column w8 _ _ _ tt f.1.1.1.1.1.1.1.1.1.1.1.1.1.1.1.1.1.1.1.1.1.1.1.1.1.1.1.0;
+      methods = column w64 _ _ _ tt f.1.1.1.1.1.1.1.1.1.1.1.1.1.1.1.1.1.1.1.1.1.1.1.1.1.1.1.1.0;
+    }
+
+-- the columns of its index, the field after them
+pub owned_index : (r : Record) (vs : Valss (shape the_type).fields) → Owned r vs
+    → IndexLengths r.index.firsts r.index.counts r.index.places
+owned_index r vs f =
+    let g = f.1.1.1.1.1.1.1.1.1.1.1.1.1.1.1.1.1.1.1.1.1.1.1.1.1.1.1.1.1.0.1.1 in
+    record {
+      firsts_long = (column w16 label_count r.index.firsts _ tt g.0).long;
+      counts_long = (column w16 label_count r.index.counts _ tt g.1.0).long;
+      places_long = (column w16 most_edges r.index.places _ tt g.1.1.0).long;
+    }

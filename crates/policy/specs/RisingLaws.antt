@@ -1,6 +1,6 @@
 -- A line is refused as not rising exactly when it is not above the line before it, as an object, a pair or a triple; so the lines of a
 -- record that some bundle loads to rise.
-use Rattle.std.specs.Prelude.{ℕ, zero, suc, ◌+◌, ◌≤◌, ◌<◌, ◌≡◌, refl, ◌↔◌, Bool, not, ◌&&◌, List, [], ◌∷◌}
+use Rattle.std.specs.Prelude.{ℕ, suc, ◌+◌, ◌≤◌, ◌<◌, ◌≡◌, refl, ◌↔◌, Bool, not, ◌&&◌, List, [], ◌∷◌}
 use Rattle.std.proofs.Common.{sym, ◌∙◌, subst₂}
 use Rattle.std.proofs.Math.Path.{ap, subst}
 use Rattle.std.proofs.Math.Bool.{true, false}
