@@ -12,7 +12,7 @@ use Rattle.common.specs.CountLaws.{ones_zero, no_ones, ones_top, power_double}
 use Rattle.common.specs.Lists.{every, those}
 use Rattle.policy.specs.declared.Record.{Record}
 use Rattle.search.specs.Search.{Before}
-use Rattle.search.specs.Search.Before.{by_members, by_role_count_lem, by_number}
+use Rattle.search.specs.Search.Before.{by_members, by_roles, by_number}
 use Rattle.search.proofs.SearchLaws.{before_antisym}
 use Rattle.justification.specs.Justification.{members, meets, consistent, role_count, sets, by_role_count, by_size, all_sets, first_among, candidates, least}
 use Rattle.justification.specs.RoleCountLaws.{role_few}
@@ -145,7 +145,7 @@ module _ (count : ℕ → ℕ) where
         f.3,
         λ y l o u t. ⊎_elim
             (λ h. f.4 y l o h t)
-            (λ h. by_role_count_lem (f.1 ∙ sym o) (omega arith))
+            (λ h. by_roles (f.1 ∙ sym o) (omega arith))
             (smaller (count y) j u),
       )
   next_role_count n k j p none (some c) f g =

@@ -8,7 +8,7 @@ use Rattle.common.specs.Sets.{Apart, Within}
 use Rattle.search.specs.Search.{Candidate, LeastCandidate, NoCandidate, role_count_in}
 use Rattle.search.specs.Answers.{FoundValues}
 use Rattle.search.specs.Answers.GrantedOrDenied.{grants, denies}
-use Rattle.search.specs.Search.Before.{by_members, by_role_count_lem, by_number}
+use Rattle.search.specs.Search.Before.{by_members, by_roles, by_number}
 use Rattle.search.specs.Steps.{State, LeastCompletion, NoCompletion, Completed, LeastOfSize, NoneOfSize}
 use Rattle.common.specs.CountLaws.{ones_zero, no_ones, ones_top, power_double}
 use Rattle.common.specs.SetLaws.{le_or_lt, none_in_zero, or_in, pow_in, in_lt, in_ge, sum_in}
@@ -173,7 +173,7 @@ module _ {r : Masks} {k j : ℕ} (low : (t : ℕ) → Candidate r t → ones t �
             (o ∙ sym u)
             (p ∙ q)
             (omega (arith, e, f.smallest t d.inside u (sym q) (subst (λ (z : ℕ). Candidate r z) (omega arith) d))))
-            (λ l. by_role_count_lem (o ∙ sym u) (omega (arith, p, l)))
+            (λ l. by_roles (o ∙ sym u) (omega (arith, p, l)))
             (eq-or-lt_of_le (low t d u));
       }
 

@@ -38,7 +38,7 @@ pub record Candidate (r : Masks) (s : ℕ) : Type 0 where
 -- of a set are role principals.
 pub data Before (role_count : ℕ → ℕ) (s t : ℕ) : Type 0 where
   by_members : count_ones s < count_ones t → Before role_count s t
-  by_role_count_lem : count_ones s ≡ count_ones t → role_count s < role_count t → Before role_count s t
+  by_roles : count_ones s ≡ count_ones t → role_count s < role_count t → Before role_count s t
   by_number : count_ones s ≡ count_ones t → role_count s ≡ role_count t → s ≤ t → Before role_count s t
 
 -- how many members of s are role principals
