@@ -11,7 +11,7 @@ use Rattle.justification.specs.declared.Question.{Question}
 use Rattle.justification.specs.Predicates.{question_refusal, liberal, strict}
 use Rattle.access.specs.Access.{eager, lazy}
 use Rattle.tickets.specs.Tickets.{ticket_refusal}
-use Rattle.loading.specs.HighestFormula.{too_high_19}
+use Rattle.loading.proofs.HighestFormula.{too_high_19}
 use Rattle.history.specs.Book.{Call, add, remove, ask_eagerly, ask_lazily, check_ticket}
 use Rattle.replay.specs.Replay.{call, liberally, strictly, number_answer, answer_to}
 use Rattle.bundle.specs.Writing.{write_refusal, length_needed, written, buffer_after, measured}

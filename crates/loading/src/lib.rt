@@ -106,6 +106,7 @@ fn finish(text: &[u8], from: Stage) -> Loaded
 }
 
 // Loads a bundle.
+#[tactic(auto, using(crate::proofs::Ends::load_empty))]
 pub fn load(text: &[u8]) -> Loaded
     ensures { result ≡ loading.load text.now }
 {

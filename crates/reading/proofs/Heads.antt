@@ -10,7 +10,6 @@ use lib.ListN.{length, drop}
 use lib.Dec.{leb, eqb}
 use borrow.Author.Tests.{ne_eqb}
 use Rattle.common.specs.Limits.{most_objects}
-use Rattle.common.specs.Lists.{at}
 use Rattle.common.specs.Causes.{first}
 use Rattle.common.specs.Refusals.{wrong_kind}
 use Rattle.octets.specs.Line.{kind_octet, body_of, lines}

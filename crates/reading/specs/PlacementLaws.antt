@@ -5,7 +5,7 @@ use Rattle.common.specs.BoolLaws.{or_left, or_right}
 use Rattle.common.specs.Refusals.{wrong_kind, wrong_end}
 use Rattle.octets.specs.Line.{kind_octet, lines}
 use Rattle.policy.specs.Table.{Kind, head, code}
-use Rattle.reading.specs.Loading.{Reading, at_top, misplaced, line_refusal, not_loaded, after_last_line, read, load}
+use Rattle.reading.specs.Loading.{Reading, misplaced, line_refusal, not_loaded, after_last_line, read, load}
 
 misplaced_refused : (t : Reading) (k : Kind) (os : List ℕ) → misplaced t k os ≡ true → line_refusal t k os ≡ wrong_kind
 unfolding line_refusal
