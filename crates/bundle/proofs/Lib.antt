@@ -1,3 +1,10 @@
+pub mod LengthLaws
+pub mod PassLaws
+pub mod GrownLaws
+pub mod WriteLoad
+pub mod LoadWrite
+pub mod Altered
+pub mod RoundTrips
 pub mod Answers
 pub mod WrittenTables
 pub mod Whole

@@ -16,7 +16,7 @@ use Rattle.writing.specs.Drafts.{RoomFor, Put}
 use Rattle.writing.specs.DraftLaws.{text_append, put_join, put_length}
 use Rattle.bundle.specs.Writing.{line_octets, table_lines, rule_lines, with_end, bundle_of}
 use Rattle.bundle.specs.WriterParts.{graph_lines, ground_lines, start, Room}
-use Rattle.bundle.specs.LengthLaws.{end_size, rules_few}
+use Rattle.bundle.proofs.LengthLaws.{end_size, rules_few}
 
 rules_append : (ks js : List Kind) (r : Record) → rule_lines (ks ++ js) r ≡ rule_lines ks r ++ rule_lines js r
 rules_append [] js r = refl

@@ -20,7 +20,7 @@ use Rattle.bundle.specs.Writing.{line_octets, table_lines, rule_lines}
 use Rattle.policy.specs.Typed.{Typed}
 use Rattle.bundle.specs.WriterParts.{Room}
 use Rattle.bundle.specs.BodyLaws.{table_lines_lem}
-use Rattle.bundle.specs.LengthLaws.{line_size, table_count, table_size, rest_count, rest_size}
+use Rattle.bundle.proofs.LengthLaws.{line_size, table_count, table_size, rest_count, rest_size}
 
 -- ---- room
 

@@ -2,17 +2,10 @@ pub mod Writing
 pub mod WriterParts
 pub mod CutLaws
 pub mod BodyLaws
-pub mod LengthLaws
 pub mod TextLaws
 pub mod FramedLaws
 pub mod CheckLaws
 pub mod ReadingLaws
 pub mod TakenLaws
 pub mod PartLaws
-pub mod PassLaws
 pub mod EndLaws
-pub mod GrownLaws
-pub mod WriteLoad
-pub mod LoadWrite
-pub mod Altered
-pub mod RoundTrips

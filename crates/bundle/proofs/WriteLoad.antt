@@ -11,10 +11,10 @@ use Rattle.reading.specs.Loading.{at_top, read, load}
 use Rattle.bundle.specs.Writing.{table_lines, rule_lines, with_end, bundle_of}
 use Rattle.policy.specs.Typed.{Typed}
 use Rattle.bundle.specs.BodyLaws.{row_line, table_lines_lem}
-use Rattle.bundle.specs.LengthLaws.{rooms, rules_few}
+use Rattle.bundle.proofs.LengthLaws.{rooms, rules_few}
 use Rattle.bundle.specs.TextLaws.{Lines, lines_append, lines_table, line_of, lines_text, lines_total}
 use Rattle.bundle.specs.PartLaws.{Whole, whole_all}
-use Rattle.bundle.specs.PassLaws.{Come, come_rules}
+use Rattle.bundle.proofs.PassLaws.{Come, come_rules}
 use Rattle.bundle.specs.EndLaws.{end_line, read_end, at_end}
 
 -- ---- the lines before the end line

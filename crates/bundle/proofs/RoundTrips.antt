@@ -17,8 +17,8 @@ use Rattle.bundle.specs.declared.Written.{Written}
 use Rattle.bundle.specs.Writing.{bundle_of, length_needed, written, write_refusal, buffer_after}
 use Rattle.policy.specs.Typed.{Typed}
 use Rattle.bundle.specs.WriterParts.{Writes}
-use Rattle.bundle.specs.WriteLoad.{write_load}
-use Rattle.bundle.specs.LoadWrite.{load_write}
+use Rattle.bundle.proofs.WriteLoad.{write_load}
+use Rattle.bundle.proofs.LoadWrite.{load_write}
 
 -- what loading answers for a text of this record's rules: success, and the memo emptied
 abbrev pub loads_to : Record → Loaded

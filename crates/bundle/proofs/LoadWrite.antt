@@ -1,5 +1,5 @@
 -- A text that loads is what the writer writes of the record that it loads to.
-use Rattle.std.specs.Prelude.{ℕ, ◌+◌, ◌<◌, ◌≡◌, refl, ◌≢◌, List, [], ◌∷◌, ◌++◌, map, length}
+use Rattle.std.specs.Prelude.{ℕ, ◌<◌, ◌≡◌, refl, ◌≢◌, List, [], ◌∷◌, ◌++◌, map, length}
 use Rattle.std.proofs.Common.{sym, ◌∙◌, ap, append_assoc, append-nil, arith, ne_eqb}
 use Rattle.std.proofs.Math.Path.{subst}
 use Rattle.std.proofs.lemmas.Bool.{false≢true}
@@ -23,7 +23,7 @@ use Rattle.reading.specs.FramedLaws.Lines.{none, more}
 use Rattle.reading.specs.FramedLaws.Checked.{refused_line_lem, octets_line}
 use Rattle.bundle.specs.BodyLaws.{line_again}
 use Rattle.reading.specs.KindLaws.{as_many}
-use Rattle.bundle.specs.GrownLaws.{lines_more, lines_first}
+use Rattle.bundle.proofs.GrownLaws.{lines_more, lines_first}
 use Rattle.reading.specs.TakenLaws.{read_taken, end_taken}
 use Rattle.bundle.specs.TakenLaws.{taken_end, taken_head, load_framed}
 

@@ -21,7 +21,7 @@ use Rattle.reading.specs.FramedLaws.{Lines, lines_checked}
 use Rattle.reading.specs.FramedLaws.Lines.{none, more}
 use Rattle.reading.specs.FramedLaws.Checked.{refused_line_lem, octets_line}
 use Rattle.bundle.specs.TakenLaws.{load_framed}
-use Rattle.bundle.specs.LoadWrite.{load_write}
+use Rattle.bundle.proofs.LoadWrite.{load_write}
 
 -- two texts that load to the same rules are the same text
 pub same_text : (t u : List ℕ) → (load t).number ≡ 0 → (load u).number ≡ 0 → (load t).rules ≡ (load u).rules → t ≡ u
