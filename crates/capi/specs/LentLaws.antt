@@ -9,8 +9,9 @@ use Rattle.history.specs.Book.{Call, check_ticket, engine_after}
 use Rattle.history.specs.IndexAnew.{IndexAnew}
 use Rattle.history.proofs.IndexAnew.{index_anew}
 use Rattle.replay.specs.Replay.{call, listed_call_at, buffer_after}
-use Rattle.replay.proofs.ReplayLaws.{calls_before, tickets_leave}
-use Rattle.replay.proofs.Parts.{Part, left_after_parts, parts_calls, parts_count, PointHolds}
+use Rattle.replay.specs.BookCalls.{calls_before}
+use Rattle.replay.proofs.ReplayLaws.{tickets_leave}
+use Rattle.replay.specs.Parts.{Part, left_after_parts, parts_calls, parts_count, PointHolds}
 use Rattle.replay.proofs.PartLaws.{parts_hold}
 use Rattle.capi.specs.Lent.{load_value, Answers}
 

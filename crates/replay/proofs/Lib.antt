@@ -1,5 +1,4 @@
 pub mod ReplayLaws
-pub mod Parts
 pub mod PartLaws
 pub mod AnswerCases
 pub mod Stores

@@ -16,9 +16,10 @@ use Rattle.octets.specs.Number.{number}
 use Rattle.replay.specs.Replay.{call_octets, call_fields_at, ListedCall, call, listed_call_of, listed_call_at, answer_to, answer_octets}
 use Rattle.replay.specs.Replay.{left_after, replies, answered_count, buffer_after}
 use Rattle.replay.specs.AnswerLaws.{whole_fit, answer_at_lem}
-use Rattle.replay.proofs.ReplayLaws.{book_calls_of, calls_before, left_is, point_holds, point_answers}
-use Rattle.replay.proofs.Parts.{Part, count_in, left_after_parts, parts_replies, parts_calls, parts_count}
-use Rattle.replay.proofs.Parts.{record_at, book_at, PointHolds, PartsHold}
+use Rattle.replay.specs.BookCalls.{book_calls_of, calls_before}
+use Rattle.replay.proofs.ReplayLaws.{left_is, point_holds, point_answers}
+use Rattle.replay.specs.Parts.{Part, count_in, left_after_parts, parts_replies, parts_calls, parts_count}
+use Rattle.replay.specs.Parts.{record_at, book_at, PointHolds, PartsHold}
 
 -- calls with the same octets are the same
 same_octets : (x y : List ℕ) (k l : ℕ) → ((d : ℕ) → d < call_octets → at x (k + d) ≡ at y (l + d))

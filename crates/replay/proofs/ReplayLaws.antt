@@ -13,18 +13,7 @@ use Rattle.history.proofs.AskAgrees.{eager_answer, lazy_answer, check_number}
 use Rattle.history.specs.Demand3.{CallHolds}
 use Rattle.history.proofs.Theorem.{call_holds, list_agrees, start}
 use Rattle.replay.specs.Replay.{ListedCall, call, liberally, strictly, unknown, answer_to, listed_call_at, left_after}
-
--- the call of demand 3 that a listed call is; a predicate and an unknown kind are none
-abbrev pub book_calls_of : ListedCall → List Call
-book_calls_of (call c) = c ∷ []
-book_calls_of (liberally q) = []
-book_calls_of (strictly q) = []
-book_calls_of unknown = []
-
--- those among the first n listed calls, in order
-unfoldable pub calls_before : List ℕ → ℕ → List Call
-calls_before calls zero = []
-calls_before calls (suc n) = calls_before calls n ++ book_calls_of (listed_call_at calls n)
+use Rattle.replay.specs.BookCalls.{book_calls_of, calls_before, book}
 
 after_append : (r : Record) (cs ds : List Call) → engine_after r (cs ++ ds) ≡ engine_after (engine_after r cs) ds
 unfolding engine_after
@@ -76,18 +65,15 @@ module _ (text : List ℕ) (loads : (load text).number ≡ 0) (calls : List ℕ)
   abbrev b : Record
   b = (load text).rules
 
-  abbrev pub book : Book
-  book = book_after b (first_book text) (calls_before calls n)
-
-  agrees : Agrees b book (left_after b calls n)
-  agrees = subst (Agrees b book) (sym (left_is b calls n)) (list_agrees b (calls_before calls n) (first_book text) b (start text loads))
+  agrees : Agrees b (book text loads calls n) (left_after b calls n)
+  agrees = subst (Agrees b (book text loads calls n)) (sym (left_is b calls n)) (list_agrees b (calls_before calls n) (first_book text) b (start text loads))
 
   -- what demand 3 says of any call put at that point
-  pub point_holds : (c : Call) → CallHolds b book (left_after b calls n) c
-  point_holds c = call_holds b book (left_after b calls n) agrees c
+  pub point_holds : (c : Call) → CallHolds b (book text loads calls n) (left_after b calls n) c
+  point_holds c = call_holds b (book text loads calls n) (left_after b calls n) agrees c
 
   -- and its answer's number and set are the book's
   pub point_answers : (c : Call) → listed_call_at calls n ≡ call c
-      → number_and_set (answer_to (left_after b calls n) (listed_call_at calls n)) ≡ book_answer b book c
+      → number_and_set (answer_to (left_after b calls n) (listed_call_at calls n)) ≡ book_answer b (book text loads calls n) c
   point_answers c e =
-      ap (λ (x : ListedCall). number_and_set (answer_to (left_after b calls n) x)) e ∙ answer_is b book (left_after b calls n) agrees c
+      ap (λ (x : ListedCall). number_and_set (answer_to (left_after b calls n) x)) e ∙ answer_is b (book text loads calls n) (left_after b calls n) agrees c

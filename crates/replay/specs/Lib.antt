@@ -1,3 +1,5 @@
 pub mod Replay
 pub mod LoadLaws
 pub mod AnswerLaws
+pub mod BookCalls
+pub mod Parts

@@ -5,7 +5,7 @@ use Rattle.reading.specs.Loading.{load}
 use Rattle.history.specs.Book.{Call, Book, book_answer, number_and_set, engine_after}
 use Rattle.history.specs.Demand3.{CallHolds}
 use Rattle.replay.specs.Replay.{call_octets, call, listed_call_at, answer_to, answer_octets, answered_count, left_after, replies, buffer_after}
-use Rattle.replay.proofs.ReplayLaws.{calls_before, book}
+use Rattle.replay.specs.BookCalls.{calls_before, book}
 
 -- what is given at once: octets of calls, and a buffer for their answers
 pub record Part : Type 0 where
