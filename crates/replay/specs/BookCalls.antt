@@ -25,4 +25,3 @@ module _ (text : List ℕ) (loads : (load text).number ≡ 0) (calls : List ℕ)
 
   abbrev pub book : Book
   book = book_after b (first_book text) (calls_before calls n)
-
