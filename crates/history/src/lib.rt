@@ -1,3 +1,3 @@
-// No code: specs/ has the edge book beside the engine, over lists of calls, and the theorem of demand 3.
+// No code: specs/ has the edge book beside the engine, over lists of calls, and what demand 3 says; proofs/ has its theorem.
 
 #![tactic(auto)]

@@ -17,7 +17,7 @@ pub record Typed (r : Record) : Type 0 where
   pub fits : (k : Kind) (i : ℕ) → Fit (widths k) (row k i r)
 
 -- the test behind 19, of a record that is given: some bundle loads to it, memo aside, exactly when the answer is yes (by `Typed`, see
--- `bundle/specs/RoundTrips.antt` `loadable_exactly`)
+-- `bundle/proofs/RoundTrips.antt` `loadable_exactly`)
 pub record Tests (r : Record) (answer : Bool) : Type 0 where
   pub decides : answer ≡ loadable r
   pub typed : Typed r

@@ -4,7 +4,7 @@ use lib.Bits.{bit_or}
 use lib.Count.{ones, ones-le}
 use Rattle.search.specs.declared.Masks.{Masks}
 use Rattle.common.specs.Limits.{most_principals}
-use Rattle.common.specs.Sets.{Apart, Within}
+use Rattle.common.specs.Sets.{Apart}
 use Rattle.search.specs.Search.{Candidate, LeastCandidate, NoCandidate, role_count_in}
 use Rattle.search.specs.Answers.{FoundValues}
 use Rattle.search.specs.Answers.GrantedOrDenied.{grants, denies}
@@ -12,7 +12,7 @@ use Rattle.search.specs.Search.Before.{by_members, by_roles, by_number}
 use Rattle.search.specs.Steps.{State, LeastCompletion, NoCompletion, Completed, LeastOfSize, NoneOfSize}
 use Rattle.common.specs.CountLaws.{ones_zero, no_ones, ones_top, power_double}
 use Rattle.common.specs.SetLaws.{le_or_lt, none_in_zero, or_in, pow_in, in_lt, in_ge, sum_in}
-use Rattle.search.proofs.Counts.{ones_and, role_count_zero, role_count_top}
+use Rattle.search.proofs.Counts.{ones_and, within_role_count, role_count_zero, role_count_top}
 
 module _ {r : Masks} {n c : ℕ} where
   pub chosen_alone : Candidate r c → LeastCompletion r n 0 0 c c
@@ -183,9 +183,10 @@ module _ {r : Masks} {k j : ℕ} (low : (t : ℕ) → Candidate r t → ones t �
       (λ l. omega arith)
       (eq-or-lt_of_le (low t d u))
 
-  -- and no set of so many allowed principals has them
-  pub past_roles : {most : ℕ} → ((t : ℕ) → Within t r.allowed → ones t ≡ k → role_count_in r t ≤ most) → most < j → NoneOfSize r k
-  past_roles f h = record { none = λ t d u. omega (arith, low t d u, f t d.allowed u) }
+  -- and so many are not allowed
+  pub past_roles : {most : ℕ} → most ≡ role_count_in r r.allowed → most < j → NoneOfSize r k
+  past_roles e h =
+      record { none = λ t d u. omega (arith, low t d u, within_role_count r.role_principals t r.allowed d.allowed) }
 
 -- every candidate has k members or more
 module _ {r : Masks} {k : ℕ} (low : (t : ℕ) → Candidate r t → k ≤ ones t) where
