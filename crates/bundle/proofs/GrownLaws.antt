@@ -48,7 +48,9 @@ no_lines : (r : Record) (n : ℕ) (ks : List Kind) → Counted n ks → ((j : Ki
 no_lines r n [] c h = refl
 no_lines r n (j ∷ ks) c h =
     let z : count j r ≡ 0 = h j (omega (arith, c.0)) in
-    λ t. map (line_octets j) (table (z t) (λ i. row j i r)) ++ no_lines r (suc n) ks c.1 (λ i l. h i (omega arith)) t
+    let own : table_lines j r ≡ [] = λ t. map (line_octets j) (table (z t) (λ i. row j i r)) in
+    let others : rule_lines ks r ≡ [] = no_lines r (suc n) ks c.1 (λ i l. h i (omega arith)) in
+    rw (own, others) refl
 
 -- ---- a line of a kind between head and end, when there are no lines of later kinds yet
 

@@ -69,6 +69,11 @@ module _ (r : Record) {b : List ℕ} (p : (loadable r ≡ true) × Typed r × Ro
               (put_table formula after_formula r room_edge put_formula
               (put_table demarcation [] r room_formula (put_lines (demarcation_lines r p.1) d) (put_none _ _)))))
 
+pub returns : goal.returns
+returns c =
+    all _ c.requires c.put_line-head.ensures c.put_users-users.ensures c.put_triples-edges.ensures
+    c.put_triples-formulas.ensures c.put_demarcations.ensures
+
 pub put_line-head-requires : goal.put_line-head-requires
 put_line-head-requires c = (omega arith, room_table head after_head c.args.rules c.requires.2)
 
@@ -106,8 +111,3 @@ put_demarcations-requires c = (
       (room_formula _ c.requires c.put_line-head.ensures c.put_users-users.ensures c.put_triples-edges.ensures
       c.put_triples-formulas.ensures),
 )
-
-pub returns : goal.returns
-returns c =
-    all _ c.requires c.put_line-head.ensures c.put_users-users.ensures c.put_triples-edges.ensures
-    c.put_triples-formulas.ensures c.put_demarcations.ensures
