@@ -11,8 +11,8 @@ use Rattle.justification.specs.declared.Question.{Question}
 use Rattle.justification.specs.Predicates.{question_refusal}
 use Rattle.memo.specs.Memo.{memo_for, newly}
 use Rattle.memo.specs.Walk.{Outcome, granted, denied, evaluated_all, eagerly, walk}
-use Rattle.access.specs.declared.Answer.{Answer}
-use Rattle.access.specs.declared.Decision.{Decision}
+use Rattle.access.specs.Answers.{Answer}
+use Rattle.access.specs.Answers.{Decision}
 
 -- what a formula comes to, evaluated afresh at the object
 abbrev pub truth_at : Record → Question → ℕ → Bool

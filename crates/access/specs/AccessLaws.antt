@@ -19,7 +19,7 @@ use Rattle.memo.specs.Memo.{known, noted, evaluated, memo_for, newly}
 use Rattle.memo.specs.Walk.{formula_of, Outcome, granted, denied, chosen, left, evaluated_all, eagerly, walk}
 use Rattle.memo.specs.EvaluatedLaws.{in_place, evaluates, Reached, here, from, reached_same}
 use Rattle.memo.specs.WalkLaws.{left_eagerly, eager_reached, eager_known, walk_reached, agree}
-use Rattle.access.specs.declared.Answer.{Answer}
+use Rattle.access.specs.Answers.{Answer}
 use Rattle.access.specs.Access.{truth_at, answered, refused, asked, eager, lazy}
 
 -- ---- both answer the same

@@ -11,7 +11,7 @@ use Rattle.justification.specs.declared.Question.{Question}
 use Rattle.justification.specs.Predicates.{is_enabled}
 use Rattle.memo.specs.Memo.{known, value}
 use Rattle.memo.specs.WalkLaws.{MemoLengths}
-use Rattle.access.specs.declared.Answer.{Answer}
+use Rattle.access.specs.Answers.{Answer}
 
 -- every value that the memo knows is the truth for the memo's pair
 pub record CorrectMemo (r : Record) (m : Memo) : Type 0 where

@@ -19,7 +19,7 @@ use Rattle.memo.specs.Walk.{formula_of, Outcome, granted, denied, chosen, left, 
 use Rattle.memo.specs.EvaluatedLaws.{view, known_view, unknown_view, in_place, Reached, reached_same}
 use Rattle.memo.specs.WalkLaws.{MemoLengths, chosen_outcome, left_eagerly, eager_reached, eager_value, walk_reached, agree}
 use Rattle.memo.specs.StepLaws.{formulas_in_memo, lengths_for, least_ext}
-use Rattle.access.specs.declared.Answer.{Answer}
+use Rattle.access.specs.Answers.{Answer}
 use Rattle.access.specs.Access.{truth_at, answered, asked, eager, lazy}
 use Rattle.access.specs.CorrectMemo.{CorrectMemo, number_of, set_of, LeastAnswer}
 

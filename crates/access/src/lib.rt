@@ -2,32 +2,35 @@
 
 #![tactic(auto)]
 
-ghost use Rattle.std.specs.Prelude.{◌≡◌, ℕ, ◌+◌, ◌≤◌};
-ghost use Rattle.common.specs.Limits.{most_principals};
+ghost use Rattle.std.specs.Prelude.{◌≡◌, ℕ, ◌+◌, true, false, MatchResult};
+ghost use Rattle.std.specs.Fn.{FnOnceReturnsAt};
+ghost use Rattle.common.specs.RefusalNumbers.{number};
+ghost use Rattle.common.specs.Refusals.{not_loadable};
 ghost use Rattle.common.specs.Sets.{member};
-ghost use Rattle.edge_index.specs.Index.{Indexed};
 ghost use Rattle.policy.specs.declared.Record as records;
-ghost use Rattle.policy.specs.Loadable as validity;
+ghost use Rattle.policy.specs.Loadable.{loadable};
 ghost use Rattle.policy.specs.Typed.{Typed};
 ghost use Rattle.justification.specs.Justification as justifications;
-ghost use Rattle.search.specs.Answers.{found_values};
-ghost use Rattle.justification.specs.Masked.{Masked, least_values};
-ghost use Rattle.vertices.specs.Steps.{edges_in};
-ghost use Rattle.formula.specs.Evaluation.{formulas_in, context_of};
-ghost use Rattle.memo.specs.Lent.{FormulasFit, Principals, truth_in};
+ghost use Rattle.justification.specs.Predicates.{question_refusal};
+ghost use Rattle.justification.specs.Masked.{Masked};
+ghost use Rattle.memo.specs.Memo.{truth_for};
 ghost use Rattle.memo.specs.Walk as walks;
+ghost use Rattle.access.specs.declared.Decision as decisions;
 ghost use Rattle.access.specs.Access as access;
+ghost use Rattle.access.specs.Answers.{answer_values, decision_values};
+ghost use Rattle.access.specs.Choices.{Puts, came_to, found, outcome_of};
 
-use common::{LABEL_COUNT, MOST_EDGES, MOST_FORMULAS, MOST_PRINCIPALS};
+use common::Refusal;
+use formula::request::Request;
 use justification::Question;
+use policy::rules::Rules;
 use policy::{Memo, Record};
-use search::{Found, Masks};
+use search::Masks;
 
-// What a question answers: document 01's number, the set's number, the evaluations, and the record.
+// What a question answers: the set that is granted, or why it is refused; the evaluations; and the record.
 #[derive(Clone, Copy)]
 pub struct Answer {
-    pub number: u8,
-    pub set: u32,
+    pub outcome: Result<u32, Refusal>,
     pub evaluations: u8,
     pub rules: Record,
 }
@@ -35,295 +38,173 @@ pub struct Answer {
 // What a question comes to: the same, with the memo that it leaves in place of the record.
 #[derive(Clone, Copy)]
 pub struct Decision {
-    pub number: u8,
-    pub set: u32,
+    pub outcome: Result<u32, Refusal>,
     pub evaluations: u8,
     pub memo: Memo,
 }
 
-// A method's number as an index.
-fn index(x: u8) -> usize
-    ensures { result ≡ x }
-{
-    x as usize
+// What is chosen: the least set that will do, if there is one, and the memo before and after the evaluations.
+#[derive(Clone, Copy)]
+struct Choice {
+    set: Option<u32>,
+    before: Memo,
+    after: Memo,
 }
 
 // ---- what a question comes to
 
-// Granted, with the memo as it then is.
-fn granted(before: Memo, after: Memo, set: u32) -> Decision
-    ensures { (rules : records.Record) → access.leaves rules result ≡ access.answered rules before (walks.Outcome.granted set after) }
+// The decision for a choice, or for what refuses the question: that leaves the very memo.
+#[tactic(auto, using(crate::proofs::Choosing::chosen_is, crate::proofs::Choosing::refused_is))]
+fn decision_of(memo: Memo, choice: Result<Choice, Refusal>) -> Decision
+    ensures { (rules : records.Record) → memo ≡ rules.memo → access.leaves rules (decision_values result) ≡ came_to rules choice }
 {
-    Decision {
-        number: common::ACCEPTED,
-        set: set,
-        evaluations: memo::newly(before, after),
-        memo: after,
-    }
-}
-
-// Denied: no set will do.
-fn denied(before: Memo, after: Memo) -> Decision
-    ensures { (rules : records.Record) → access.leaves rules result ≡ access.answered rules before (walks.Outcome.denied after) }
-{
-    Decision {
-        number: common::NO_SET,
-        set: 0,
-        evaluations: memo::newly(before, after),
-        memo: after,
-    }
-}
-
-// Refused with 19, 14, 15 or 16: the empty set, no evaluation, the very memo.
-fn refused(number: u8, memo: Memo) -> Decision
-    ensures { (rules : records.Record) → memo ≡ rules.memo → access.leaves rules result ≡ access.refused number rules }
-{
-    Decision {
-        number: number,
-        set: 0,
-        evaluations: 0,
-        memo: memo,
+    match choice {
+        Ok(choice) => Decision {
+            outcome: choice.set.ok_or(Refusal::NoSet),
+            evaluations: memo::newly(choice.before, choice.after),
+            memo: choice.after,
+        },
+        Err(refusal) => Decision {
+            outcome: Err(refusal),
+            evaluations: 0,
+            memo,
+        },
     }
 }
 
 // The answer, with the record that a decision leaves.
-pub fn answer_of(rules: Record, decision: Decision) -> Answer
-    ensures { result ≡ access.leaves rules decision }
+#[tactic(auto, unfolding(policy::specs::Table::with_memo))]
+pub fn answer_of(mut rules: Record, decision: Decision) -> Answer
+    ensures { answer_values result ≡ access.leaves rules (decision_values decision) }
 {
-    let mut left = rules;
-    let memo = decision.memo;
-    left.memo = memo;
+    rules.memo = decision.memo;
     Answer {
-        number: decision.number,
-        set: decision.set,
+        outcome: decision.outcome,
         evaluations: decision.evaluations,
-        rules: left,
+        rules,
     }
 }
 
-// The least candidate of the masks' record and method among other allowed principals.
-fn least_among(masks: Masks, allowed: u32) -> Found
-    requires { masks.count ≤ most_principals }
-    ensures { (rules : records.Record) (m a : ℕ) → Masked rules m a masks
-        → found_values result ≡ least_values (justifications.least rules m (λ p. member p allowed)) }
+// ---- what both forms share
+
+// The answer of a record to which some bundle loads: what its rules decide. Else 19.
+fn asked<F: FnOnce(&Rules<'_>) -> Decision>(rules: Record, decide: F) -> Answer
+    requires { F.IsAlwaysCallable decide }
+    ensures refused { loadable rules ≡ false → answer_values result ≡ access.refused not_loadable rules }
+    ensures decided { loadable rules ≡ true → (decision : decisions.Decision) × FnOnceReturnsAt F.FnOnce decide rules decision
+        × (answer_values result ≡ access.leaves rules (decision_values decision)) }
+    ensures typed { Typed rules }
 {
-    let mut open = masks;
-    open.allowed = allowed;
-    search::least(open)
+    let decision = match Rules::of(&rules) {
+        Some(lent) => decide(&lent),
+        None => decision_of(rules.memo, Err(Refusal::NotLoadable)),
+    };
+    answer_of(rules, decision)
+}
+
+// A question that may be put: the request, the masks for its method, and the memo for it. Else what refuses it.
+#[tactic(auto, using(crate::proofs::Choosing::method_there))]
+fn put<'a>(rules: &Rules<'a>, question: Question) -> Result<(Request<'a>, Masks, Memo), Refusal>
+    ensures { MatchResult result (λ x. Puts rules.now question x.0 x.1 x.2)
+        (λ refusal. number refusal ≡ question_refusal rules.now question) }
+{
+    justification::check_question(rules, question)?;
+    let request = Request::of(rules, question.object, question.requestor);
+    let masks = justification::masks_of(rules.columns, usize::from(question.method), 0);
+    Ok((request, masks, memo::memo_for(rules.columns.memo, question)))
+}
+
+// The least candidate of the masks' record and method among other allowed principals.
+fn least_among(mut masks: Masks, allowed: u32) -> Option<u32>
+    ensures { (rules : records.Record) (m a : ℕ) → Masked rules m a masks
+        → found result ≡ justifications.least rules m (λ p. member p allowed) }
+{
+    masks.allowed = allowed;
+    masks.least()
 }
 
 // ---- eager
 
 // The eager question.
+#[tactic(auto, using(crate::proofs::Choosing::eager_unloadable))]
 pub fn ask_eager(rules: Record, question: Question) -> Answer
-    ensures { (result ≡ access.eager rules question) × Typed rules }
+    ensures { (answer_values result ≡ access.eager rules question) × Typed rules }
 {
-    let loads = policy::loadable::loadable(rules);
-    ask_eager_given(rules, loads, question)
-}
-
-// The same, given whether some bundle loads to the record.
-pub fn ask_eager_given(rules: Record, loads: bool, question: Question) -> Answer
-    requires { loads ≡ validity.loadable rules }
-    ensures { result ≡ access.eager rules question }
-{
-    answer_of(rules, decide_eagerly(rules, loads, question))
+    asked(rules, |lent| decide_eager(lent, question))
 }
 
 // What it comes to, for a caller that keeps the record.
-pub fn decide_eagerly(rules: Record, loads: bool, question: Question) -> Decision
-    requires { loads ≡ validity.loadable rules }
-    ensures { access.leaves rules result ≡ access.eager rules question }
+pub fn decide_eager(rules: &Rules<'_>, question: Question) -> Decision
+    ensures { access.leaves rules.now (decision_values result) ≡ access.eager rules.now question }
 {
-    let number = justification::question_refusal(
-        loads,
-        rules.method_count,
-        rules.objects,
-        rules.user_count,
-        &rules.user_objects,
-        question,
-    );
-    if number != 0 {
-        return refused(number, rules.memo);
-    }
-    let before = memo::memo_for(rules.memo, question);
-    let s = question.requestor;
-    let roles = formula::roles_of(rules.user_count, &rules.user_objects, &rules.user_roles, s);
-    let method = index(question.method);
-    let masks = justification::masks_of(
-        &rules.formula_ops,
-        rules.demarcation_count,
-        &rules.demarcation_privileges,
-        rules.hierarchy_count,
-        &rules.inferiors,
-        &rules.superiors,
-        rules.principal_count,
-        &rules.principal_formulas,
-        &rules.principal_demarcations,
-        rules.exclusion_count,
-        &rules.exclusion_lows,
-        &rules.exclusion_highs,
-        rules.prerequisite_count,
-        &rules.prerequisites,
-        &rules.dependents,
-        &rules.method_forms,
-        &rules.method_privileges,
-        method,
-        0,
-    );
-    let after = memo::evaluated_all(
+    decision_of(rules.columns.memo, choose_eagerly(rules, question))
+}
+
+// All principals' formulas are evaluated first, unless known.
+#[tactic(auto, using(crate::proofs::Choosing::eager_refused))]
+fn choose_eagerly(rules: &Rules<'_>, question: Question) -> Result<Choice, Refusal>
+    ensures { came_to rules.now result ≡ access.eager rules.now question }
+{
+    let (request, masks, before) = put(rules, question)?;
+    let after = memo::evaluated_all(&request, before);
+    let enabled = memo::valued(&request, after);
+    Ok(Choice {
+        set: least_among(masks, enabled),
         before,
-        rules.edge_count,
-        &rules.edge_labels,
-        &rules.edge_sources,
-        &rules.edge_targets,
-        &rules.index.firsts,
-        &rules.index.counts,
-        &rules.index.places,
-        &rules.formula_ops,
-        &rules.formula_lefts,
-        &rules.formula_rights,
-        rules.principal_count,
-        &rules.principal_formulas,
-        roles,
-        question.object,
-        s,
-    );
-    let enabled = memo::valued(rules.principal_count, &rules.principal_formulas, after);
-    match least_among(masks, enabled) {
-        Found::Set(set) => granted(before, after, set),
-        Found::Nothing => denied(before, after),
-    }
+        after,
+    })
 }
 
 // ---- lazy
 
 // The lazy question.
+#[tactic(auto, using(crate::proofs::Choosing::lazy_unloadable))]
 pub fn ask_lazy(rules: Record, question: Question) -> Answer
-    ensures { (result ≡ access.lazy rules question) × Typed rules }
+    ensures { (answer_values result ≡ access.lazy rules question) × Typed rules }
 {
-    let loads = policy::loadable::loadable(rules);
-    ask_lazy_given(rules, loads, question)
-}
-
-// The same, given whether some bundle loads to the record.
-pub fn ask_lazy_given(rules: Record, loads: bool, question: Question) -> Answer
-    requires { loads ≡ validity.loadable rules }
-    ensures { result ≡ access.lazy rules question }
-{
-    answer_of(rules, decide_lazily(rules, loads, question))
+    asked(rules, |lent| decide_lazy(lent, question))
 }
 
 // What it comes to, for a caller that keeps the record.
-pub fn decide_lazily(rules: Record, loads: bool, question: Question) -> Decision
-    requires { loads ≡ validity.loadable rules }
-    ensures { access.leaves rules result ≡ access.lazy rules question }
+pub fn decide_lazy(rules: &Rules<'_>, question: Question) -> Decision
+    ensures { access.leaves rules.now (decision_values result) ≡ access.lazy rules.now question }
 {
-    let number = justification::question_refusal(
-        loads,
-        rules.method_count,
-        rules.objects,
-        rules.user_count,
-        &rules.user_objects,
-        question,
-    );
-    if number != 0 {
-        return refused(number, rules.memo);
-    }
-    let before = memo::memo_for(rules.memo, question);
-    let s = question.requestor;
-    let roles = formula::roles_of(rules.user_count, &rules.user_objects, &rules.user_roles, s);
-    let method = index(question.method);
-    let masks = justification::masks_of(
-        &rules.formula_ops,
-        rules.demarcation_count,
-        &rules.demarcation_privileges,
-        rules.hierarchy_count,
-        &rules.inferiors,
-        &rules.superiors,
-        rules.principal_count,
-        &rules.principal_formulas,
-        &rules.principal_demarcations,
-        rules.exclusion_count,
-        &rules.exclusion_lows,
-        &rules.exclusion_highs,
-        rules.prerequisite_count,
-        &rules.prerequisites,
-        &rules.dependents,
-        &rules.method_forms,
-        &rules.method_privileges,
-        method,
-        0,
-    );
-    searches(
-        masks,
-        before,
-        rules.edge_count,
-        &rules.edge_labels,
-        &rules.edge_sources,
-        &rules.edge_targets,
-        &rules.index.firsts,
-        &rules.index.counts,
-        &rules.index.places,
-        &rules.formula_ops,
-        &rules.formula_lefts,
-        &rules.formula_rights,
-        rules.principal_count,
-        &rules.principal_formulas,
-        roles,
-        question.object,
-        s,
-    )
+    decision_of(rules.columns.memo, choose_lazily(rules, question))
 }
 
-// At most one search more than there are principals, each among those not known false. The columns are lent.
-fn searches<'a>(
-    masks: Masks,
-    before: Memo,
-    edge_count: usize,
-    labels: &'a [u8; MOST_EDGES],
-    sources: &'a [u8; MOST_EDGES],
-    targets: &'a [u8; MOST_EDGES],
-    firsts: &'a [u16; LABEL_COUNT],
-    counts: &'a [u16; LABEL_COUNT],
-    places: &'a [u16; MOST_EDGES],
-    ops: &'a [u8; MOST_FORMULAS],
-    lefts: &'a [u8; MOST_FORMULAS],
-    rights: &'a [u8; MOST_FORMULAS],
-    count: usize,
-    formulas: &'a [u8; MOST_PRINCIPALS],
-    roles: u16,
-    object: u8,
-    requestor: u8,
-) -> Decision
-    requires { Indexed edge_count labels.now sources.now targets.now firsts.now counts.now places.now
-        × FormulasFit count formulas.now × (masks.count ≤ most_principals) }
-    ensures { (rules : records.Record) (m : ℕ) → Principals count formulas.now rules → Masked rules m 0 masks
-        → access.leaves rules result ≡ access.answered rules before (walks.searching (rules.principal_count + 1)
-        (truth_in (context_of roles object requestor
-        (edges_in edge_count labels.now sources.now targets.now))
-        (formulas_in ops.now lefts.now rights.now)) rules m before) }
+// A candidate's formulas are evaluated only when it is weighed.
+#[tactic(auto, using(crate::proofs::Choosing::lazy_refused))]
+fn choose_lazily(rules: &Rules<'_>, question: Question) -> Result<Choice, Refusal>
+    ensures { came_to rules.now result ≡ access.lazy rules.now question }
 {
-    let mut memo = before;
-    let mut rounds: usize = 0;
-    while rounds <= count {
-        let open = memo::not_known_false(count, formulas, memo);
-        match least_among(masks, open) {
-            Found::Nothing => {
-                return denied(before, memo);
-            }
-            Found::Set(c) => {
-                let t = memo::weigh(
-                    memo, edge_count, labels, sources, targets, firsts, counts, places, ops, lefts,
-                    rights, count, formulas, roles, object, requestor, c,
-                );
-                if t.survives {
-                    return granted(before, t.memo, c);
-                }
-                memo = t.memo;
-            }
+    let (request, masks, before) = put(rules, question)?;
+    Ok(search_by(&request, masks, before))
+}
+
+// At most one search more than there are principals, each among those not known false.
+fn search_by(request: &Request<'_>, masks: Masks, before: Memo) -> Choice
+    ensures { (m : ℕ) → Masked request.now.rules m 0 masks → (result.before ≡ before) × (outcome_of result
+        ≡ walks.searching (request.now.rules.principal_count + 1) (truth_for request.now) request.now.rules m before) }
+{
+    let mut after = before;
+    for _round in 0..=request.columns.principal_count {
+        let open = memo::not_known_false(request, after);
+        let Some(c) = least_among(masks, open) else {
+            break;
+        };
+        let tried = memo::weigh(request, after, c);
+        after = tried.memo;
+        if tried.survives {
+            return Choice {
+                set: Some(c),
+                before,
+                after,
+            };
         }
-        rounds += 1;
     }
-    denied(before, memo)
+    Choice {
+        set: None,
+        before,
+        after,
+    }
 }

@@ -13,7 +13,7 @@ use Rattle.octets.proofs.DamageLaws.{never_well_framed}
 use Rattle.policy.specs.Table.{Kind, hierarchy, prerequisite, kind_of, count, room, rows, blank, indexed}
 use Rattle.rows.specs.Checks.{causes}
 use Rattle.policy.specs.Rows.{limited, rising, key, minimum_key, in_range, row_causes}
-use Rattle.reading.specs.declared.Loaded.{Loaded}
+use Rattle.reading.specs.Loaded.{Loaded}
 use Rattle.reading.specs.Body.{numbers}
 use Rattle.reading.specs.Loading.{Reading, at_top, misplaced, end_wrong, line_refusal, after_line, not_loaded, after_last_line, read, load}
 use Rattle.bundle.specs.Writing.{bundle_of}

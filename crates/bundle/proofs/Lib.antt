@@ -8,3 +8,4 @@ pub mod RoundTrips
 pub mod Answers
 pub mod WrittenTables
 pub mod Whole
+pub mod SameAnswers

@@ -11,7 +11,7 @@ use Rattle.policy.specs.declared.Record.{Record}
 use Rattle.policy.specs.Table.{Kind, head, end, code, kind_of, kinds, appended, indexed}
 use Rattle.policy.specs.RoomLaws.{room_left}
 use Rattle.policy.specs.MemoLaws.{rows_indexed}
-use Rattle.reading.specs.declared.Loaded.{Loaded}
+use Rattle.reading.specs.Loaded.{Loaded}
 use Rattle.reading.specs.Body.{numbers}
 use Rattle.reading.specs.Loading.{Reading, at_top, line_refusal, after_line, read, load}
 use Rattle.reading.specs.LoadingLaws.{Taken, taken, Sound, sound_top, sound_more, end_kept, Sort, sort}

@@ -10,10 +10,10 @@ use Rattle.policy.specs.declared.Record.{Record}
 use Rattle.policy.specs.Table.{emptied, with_memo}
 use Rattle.policy.specs.Loadable.{loadable}
 use Rattle.policy.specs.MemoLaws.{memo_aside}
-use Rattle.reading.specs.declared.Loaded.{Loaded}
+use Rattle.reading.specs.Loaded.{Loaded}
 use Rattle.reading.specs.Loading.{load}
 use Rattle.reading.specs.LoadingLaws.{as_loaded}
-use Rattle.bundle.specs.declared.Written.{Written}
+use Rattle.bundle.specs.Written.{Written}
 use Rattle.bundle.specs.Writing.{bundle_of, length_needed, written, write_refusal, buffer_after}
 use Rattle.policy.specs.Typed.{Typed}
 use Rattle.bundle.specs.WriterParts.{Writes}

@@ -85,11 +85,3 @@ module _ (r : Record) where
               let w = put_join (omega arith) all (subst (Put a z e f) last u) in
               let end-offset : f.offset ≡ length (text_of (with_end ls)) = omega (arith, w.offset) in
               w.bytes ∙ ap (λ (k : ℕ). text_of (with_end ls) ++ drop k b) end-offset
-
-          pub whole_length : {z : List ℕ} {f : Draft} → Put a z e f (line_octets end (e.lines ∷ e.sum ∷ []) ∷ []) → length z ≡ length b
-          whole_length u =
-              let l = lengths in
-              let s = end_size (e.lines ∷ e.sum ∷ []) in
-              let same : length c ≡ length b = put_length (omega (arith, p.offset)) p in
-              let again : length a ≡ length c = put_length (omega (arith, p.offset, q.offset)) q in
-              put_length (omega (arith, p.offset, q.offset, u.offset)) u ∙ again ∙ same

@@ -1,3 +1,4 @@
+pub mod Written
 pub mod Writing
 pub mod WriterParts
 pub mod CutLaws

@@ -12,7 +12,7 @@ use Rattle.policy.specs.declared.Record.{Record}
 use Rattle.policy.specs.Table.{head, end, kind_of}
 use Rattle.policy.specs.Rows.{in_range, row_causes, row_refusal}
 use Rattle.policy.specs.RowLaws.{passed}
-use Rattle.reading.specs.declared.Loaded.{Loaded}
+use Rattle.reading.specs.Loaded.{Loaded}
 use Rattle.reading.specs.Body.{numbers}
 use Rattle.reading.specs.Loading.{Reading, at_top, misplaced, end_wrong, line_refusal, after_line, read, load}
 use Rattle.reading.specs.LoadingLaws.{none_first}

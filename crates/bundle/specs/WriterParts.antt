@@ -6,7 +6,7 @@ use Rattle.policy.specs.declared.Record.{Record}
 use Rattle.policy.specs.Table.{head, user, edge, formula, demarcation, hierarchy, principal, exclusion, prerequisite, method}
 use Rattle.writing.specs.declared.Draft.{Draft}
 use Rattle.writing.specs.Drafts.{greatest_total}
-use Rattle.bundle.specs.declared.Written.{Written}
+use Rattle.bundle.specs.Written.{Written}
 use Rattle.bundle.specs.Writing.{rule_lines, written, buffer_after}
 use Rattle.policy.specs.Typed.{Typed}
 

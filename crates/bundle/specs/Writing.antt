@@ -6,15 +6,19 @@ use Rattle.common.specs.Refusals.{short_buffer, not_loadable}
 use Rattle.octets.specs.Line.{framed, text_of, totals}
 use Rattle.octets.specs.Number.{in_octets}
 use Rattle.policy.specs.declared.Record.{Record}
-use Rattle.policy.specs.Table.{Kind, end, code, kinds, rows}
+use Rattle.policy.specs.Table.{Kind, end, code, kinds, row, rows}
 use Rattle.policy.specs.Loadable.{loadable}
-use Rattle.bundle.specs.declared.Written.{Written}
+use Rattle.bundle.specs.Written.{Written}
 use Rattle.policy.specs.Table.{widths}
 
 -- numbers as octets, by how many octets each has
 abbrev pub body : List ℕ → List ℕ → List ℕ
 body [] v = []
 body (w ∷ ws) v = in_octets w (at v 0) ++ body ws (drop 1 v)
+
+-- the body of row i of kind k's table
+abbrev pub row_body : Kind → ℕ → Record → List ℕ
+row_body k i r = body (widths k) (row k i r)
 
 -- the octets of a line of kind k with the numbers v
 abbrev pub line_octets : Kind → List ℕ → List ℕ

@@ -5,12 +5,12 @@
 pub mod writer;
 
 pub use loading::load;
-pub use reading::Loaded;
+pub use reading::BadLine;
 pub use writer::{measure, write};
 
-// What writing answers: document 01's number, and the length of the bundle (0 with 19).
-#[derive(Clone, Copy)]
-pub struct Written {
-    pub number: u8,
-    pub length: usize,
+// Why a record is not written: no bundle loads to it, or the buffer is too short, with the length needed.
+#[derive(Clone, Copy, PartialEq, Eq)]
+pub enum NotWritten {
+    NotLoadable,
+    ShortBuffer(usize),
 }

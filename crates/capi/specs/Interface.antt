@@ -1,6 +1,6 @@
 -- What the C interface answers: a number and a value in one number, number · 2^32 + value.
 use Rattle.std.specs.Prelude.{ℕ, ◌+◌, ◌*◌, ◌%◌, cond, List, eqb}
-use Rattle.reading.specs.declared.Loaded.{Loaded}
+use Rattle.reading.specs.Loaded.{Loaded}
 use Rattle.bundle.specs.Writing.{written, buffer_after}
 use Rattle.replay.specs.Replay.{answered_count}
 use Rattle.replay.specs.Replay as replay

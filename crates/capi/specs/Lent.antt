@@ -6,14 +6,10 @@ use Rattle.reading.specs.Loading.{load}
 use Rattle.bundle.specs.Writing.{written}
 use Rattle.replay.specs.Replay.{answered_count, left_after, buffer_after}
 use Rattle.capi.specs.Interface.{packed}
-use Rattle.capi.specs.declared.lent.Left.{Left}
 
--- loading: its number and line, and its record, blank for a refused bundle
+-- loading: its number and line
 abbrev pub load_value : List ℕ → ℕ
 load_value text = packed (load text).number (load text).line
-
-abbrev pub load_left : List ℕ → Left
-load_left text = record { value = load_value text; rules = (load text).rules }
 
 -- writing: the writer's number and length
 abbrev pub write_value : Record → List ℕ → ℕ

@@ -8,23 +8,6 @@ ghost use Rattle.closure.specs.Closure.{On, pairs_of, Relates, Below, Star, Circ
 
 use common::{MOST_PAIRS, MOST_RELATED};
 
-// How many of count things there is room for.
-fn at_most(count: usize, limit: usize) -> usize
-    ensures { result ≡ min count limit }
-{
-    if count < limit {
-        return count;
-    }
-    limit
-}
-
-// A thing as an index.
-fn index(thing: u8) -> usize
-    ensures { result ≡ thing }
-{
-    thing as usize
-}
-
 // The relation that the first count pairs of two lent columns make: a pair that names a thing beyond those is passed over.
 pub fn related<'a>(
     firsts: &'a [u8; MOST_PAIRS],
@@ -33,11 +16,11 @@ pub fn related<'a>(
 ) -> [[bool; MOST_RELATED]; MOST_RELATED]
     ensures { Relates (pairs_of (min count most_pairs) firsts.now seconds.now) result }
 {
-    let n = at_most(count, MOST_PAIRS);
+    let n = count.min(MOST_PAIRS);
     let mut m = [[false; MOST_RELATED]; MOST_RELATED];
     for e in 0..n {
-        let a = index(firsts[e]);
-        let b = index(seconds[e]);
+        let a = usize::from(firsts[e]);
+        let b = usize::from(seconds[e]);
         if a < MOST_RELATED && b < MOST_RELATED {
             m[a][b] = true;
         }
@@ -53,7 +36,7 @@ pub fn closed(
 ) -> [[bool; MOST_RELATED]; MOST_RELATED]
     ensures { Closes (min count most_related) (On m) (On result) }
 {
-    let n = at_most(count, MOST_RELATED);
+    let n = count.min(MOST_RELATED);
     let mut c = m;
     for k in 0..n {
         c[k][k] = true;
@@ -74,7 +57,7 @@ pub fn closed(
 pub fn has_circle(c: [[bool; MOST_RELATED]; MOST_RELATED], count: usize) -> bool
     ensures { result ≡ true ↔ Circle (Below (min count most_related) (On c)) }
 {
-    let n = at_most(count, MOST_RELATED);
+    let n = count.min(MOST_RELATED);
     for i in 0..n {
         for j in 0..n {
             if i != j && c[i][j] && c[j][i] {

@@ -1,6 +1,8 @@
 pub mod Lists
 pub mod Sets
 pub mod Causes
+pub mod RefusalLaws
+pub mod RefusalNumbers
 pub mod Refusals
 pub mod Limits
 pub mod Order

@@ -1,5 +1,5 @@
 -- The members of a set that is a number: of an and, an or and a sum of two.
-use Rattle.std.specs.Prelude.{◌≡◌, refl, ◌⊎◌, true, ℕ, ◌+◌, ◌-◌, ◌*◌, ◌/◌, ◌%◌, ◌^◌, ◌≤◌, ◌<◌, min, max}
+use Rattle.std.specs.Prelude.{◌≡◌, refl, ◌⊎◌, true, ℕ, ◌+◌, ◌*◌, ◌/◌, ◌%◌, ◌^◌, ◌≤◌, ◌<◌, min, max}
 use Rattle.std.proofs.Common.{sym, ap, subst, ◌∙◌, inl, inr, ⊎_elim, mod-lt, eq-or-lt_of_le, lt_of_lt_of_le, le-div_iff_mul-le, arith, eqb-true, eq-eqb, pow_pos, pow_mono, shr-shr}
 use Rattle.std.proofs.Math.Nat.{div-eq_of_lt, div_self}
 use Rattle.std.proofs.Math.Decide.{dec_le}

@@ -2,58 +2,64 @@
 
 #![tactic(auto)]
 
-// Success.
+ghost use Rattle.std.specs.Prelude.{◌≡◌};
+ghost use Rattle.common.specs.RefusalNumbers.{outcome_number};
+
+// What an answer's number is where nothing is refused.
 pub const ACCEPTED: u8 = 0;
 
-// Loading: number and line, with the blank record.
-pub const WRONG_CHARACTERS: u8 = 1;
+// Why a call refuses, with the number that the format gives it.
+#[derive(Clone, Copy, PartialEq, Eq)]
+pub enum Refusal {
+    // Loading: number and line, with the blank record.
+    WrongCharacters = 1,
+    WrongLength = 2,
+    WrongSum = 3,
+    WrongKind = 4,
+    OverLimit = 5,
+    OutOfRange = 6,
+    NotRising = 7,
+    WrongEnd = 8,
+    Circle = 9,
+    // Edits: the record is handed back.
+    EdgeOutOfRange = 10,
+    EdgePresent = 11,
+    EdgeAbsent = 12,
+    EdgesFull = 13,
+    // Questions.
+    NoMethod = 14,
+    NoObject = 15,
+    NotUser = 16,
+    NoSet = 17,
+    // Writing.
+    ShortBuffer = 18,
+    // Any call but loading: no bundle loads to the record.
+    NotLoadable = 19,
+    // Tickets: the number alone; the record stays.
+    NotEnabled = 20,
+    NotConsistent = 21,
+    GuardNotMet = 22,
+}
 
-pub const WRONG_LENGTH: u8 = 2;
+impl From<Refusal> for u8 {
+    ghost use Rattle.common.specs.RefusalNumbers.{IsNumberOf};
 
-pub const WRONG_SUM: u8 = 3;
+    ghost from_gives = { IsNumberOf };
 
-pub const WRONG_KIND: u8 = 4;
+    fn from(refusal: Refusal) -> u8 {
+        refusal as u8
+    }
+}
 
-pub const OVER_LIMIT: u8 = 5;
-
-pub const OUT_OF_RANGE: u8 = 6;
-
-pub const NOT_RISING: u8 = 7;
-
-pub const WRONG_END: u8 = 8;
-
-pub const CIRCLE: u8 = 9;
-
-// Edits: the record is handed back.
-pub const EDGE_OUT_OF_RANGE: u8 = 10;
-
-pub const EDGE_PRESENT: u8 = 11;
-
-pub const EDGE_ABSENT: u8 = 12;
-
-pub const EDGES_FULL: u8 = 13;
-
-// Questions.
-pub const NO_METHOD: u8 = 14;
-
-pub const NO_OBJECT: u8 = 15;
-
-pub const NOT_USER: u8 = 16;
-
-pub const NO_SET: u8 = 17;
-
-// Writing.
-pub const SHORT_BUFFER: u8 = 18;
-
-// Any call but loading: no bundle loads to the record.
-pub const NOT_LOADABLE: u8 = 19;
-
-// Tickets: the number alone; the record stays.
-pub const NOT_ENABLED: u8 = 20;
-
-pub const NOT_CONSISTENT: u8 = 21;
-
-pub const GUARD_NOT_MET: u8 = 22;
+// The number of an outcome: 0, or that of its refusal.
+pub fn number_of<T: Copy>(outcome: Result<T, Refusal>) -> u8
+    ensures { result ≡ outcome_number outcome }
+{
+    match outcome {
+        Ok(_) => ACCEPTED,
+        Err(refusal) => u8::from(refusal),
+    }
+}
 
 // ---- the limits of document 01, and the rooms that follow from them (`specs/Limits.antt`)
 

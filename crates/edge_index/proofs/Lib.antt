@@ -1,8 +1,7 @@
-mod Fits
 mod Tallies
 mod Orders
 mod Agreeing
 mod Dealing
-mod Moves
+mod Halving
 mod Placing
 mod Counting

@@ -10,3 +10,4 @@ pub mod RangeLaws
 pub mod Spans
 pub mod SpanLaws
 pub mod IndexExample
+pub mod Columns

@@ -1,25 +1,24 @@
 -- A formula by its parts, at a vertex and on sets, and a step by what is found where its edges end: the recursion of the definition, as the
 -- evaluation goes through it.
-use Prim.Native.Nat.{ℕ, zero, suc, ◌<◌, ◌≤◌}
+use Prim.Native.Nat.{ℕ, zero, suc, ◌+◌, ◌<◌}
 use mathlib.Core.Path.{◌≡◌, refl, sym, ◌∙◌, ap}
-use mathlib.Core.Bool.{Bool, true, false, false≢true, cond, not, ◌&&◌, ◌||◌, and_assoc, and-or_distrib_left}
+use mathlib.Core.Bool.{Bool, true, false, false≢true, not, ◌&&◌, ◌||◌, and_assoc, and-or_distrib_left}
 use mathlib.Core.List.{List, [], ◌∷◌}
 use native.Mathlib.Omega.{arith}
-use native.Mathlib.Decide.{ℕ_discrete}
+use lib.ListN.{length, set, length-set}
 use lib.Dec.{eqb}
-use borrow.Author.Tests.{eq-eqb, ne_eqb, eqb-true}
+use borrow.Author.Tests.{eq-eqb, eqb-true}
 use Rattle.common.specs.Lists.{at}
 use Rattle.common.specs.ListLaws.{any_more}
 use Rattle.common.specs.BoolLaws.{and_cases, and_both, same_test}
 use Rattle.rows.specs.Op.{op_of}
-use Rattle.edge_index.specs.Index.{Indexed}
-use Rattle.edge_index.specs.Spans.{Span}
-use Rattle.vertices.specs.Steps.{leads, is_in, placed, Among, HasMember, edges_in}
+use Rattle.vertices.specs.Steps.{leads, is_in, Among, HasMember, edges_in}
+use Rattle.vertices.proofs.VertexSets.{FilledTo, filled_more, filled_skip, everywhere, beyond}
 use Rattle.vertices.specs.StepLaws.{some_edge, edge_some}
 use Rattle.formula.specs.Formula.{Context, Formulas, true_of, slot, keep, meaning, true_below}
 use Rattle.formula.specs.Uses.{reads_slot}
 use Rattle.formula.proofs.SlotLaws.{kept_unread}
-use Rattle.formula.specs.Evaluation.{formula_at, Direction}
+use Rattle.formula.specs.Evaluation.{formula_at}
 use Rattle.formula.specs.EvaluationLaws.{below_in}
 
 -- the edges turned round
@@ -30,6 +29,10 @@ turned (suc n) labels from to a p v =
     any_more (λ e. eqb (at e 0) a && (eqb (at e 1) v && p (at e 2))) n (λ i. at labels i ∷ at to i ∷ at from i ∷ [])
     ∙ ap (λ (b : Bool). b || (eqb (at labels n) a && (eqb (at to n) v && p (at from n)))) (turned n labels from to a p v)
     ∙ sym (any_more (λ e. eqb (at e 0) a && (eqb (at e 2) v && p (at e 1))) n (λ i. at labels i ∷ at from i ∷ at to i ∷ []))
+
+-- a part by the number that was read
+pub by_number : (fs : Formulas) (c : Context) (f : ℕ) {g b : ℕ} → g ≡ b → (v : ℕ) → true_below fs c f g v ≡ true_below fs c f b v
+by_number fs c f e v = ap (λ (k : ℕ). true_below fs c f k v) e
 
 -- formula f at v by its parts, with the number of its op
 module _ (fs : Formulas) (c : Context) (f v : ℕ) where
@@ -49,55 +52,44 @@ module _ (fs : Formulas) (c : Context) (f v : ℕ) where
   unfolding formula_at
   by_op k e = ap (λ (o : ℕ). meaning c (op_of o) left right (λ d. true_below fs d f) v) (sym e)
 
-  pub negation_at : at fs.ops f ≡ 4 → not (true_below fs c f left v) ≡ formula_at fs c f v
+  -- t and u are the parts' values
+  pub negation_at : {t : Bool} → t ≡ true_below fs c f left v → at fs.ops f ≡ 4 → not t ≡ formula_at fs c f v
   unfolding meaning
-  negation_at op = by_op 4 op
+  negation_at e op = ap not e ∙ by_op 4 op
 
-  pub conjunction_at : at fs.ops f ≡ 5 → (true_below fs c f left v && true_below fs c f right v) ≡ formula_at fs c f v
+  pub conjunction_at : {t u : Bool} → t ≡ true_below fs c f left v → u ≡ true_below fs c f right v → at fs.ops f ≡ 5
+      → (t && u) ≡ formula_at fs c f v
   unfolding meaning
-  conjunction_at op = by_op 5 op
+  conjunction_at e eu op = (λ j. e j && eu j) ∙ by_op 5 op
 
-  pub disjunction_at : at fs.ops f ≡ 6 → (true_below fs c f left v || true_below fs c f right v) ≡ formula_at fs c f v
+  pub disjunction_at : {t u : Bool} → t ≡ true_below fs c f left v → u ≡ true_below fs c f right v → at fs.ops f ≡ 6
+      → (t || u) ≡ formula_at fs c f v
   unfolding meaning
-  disjunction_at op = by_op 6 op
+  disjunction_at e eu op = (λ j. e j || eu j) ∙ by_op 6 op
 
-  -- a step from the edges' starts to their ends, and from their ends to their starts
-  pub forward_at : at fs.ops f ≡ 7 → leads c.edges 1 2 left (true_below fs c f right) v ≡ formula_at fs c f v
+  -- a step from the edges' starts to their ends, and from their ends to their starts: along the edges es, with the label l
+  pub forward_at : {es : List (List ℕ)} {l : ℕ} → es ≡ c.edges → l ≡ left → at fs.ops f ≡ 7
+      → leads es 1 2 l (true_below fs c f right) v ≡ formula_at fs c f v
   unfolding meaning
-  forward_at op = by_op 7 op
+  forward_at e el op = (λ j. leads (e j) 1 2 (el j) (true_below fs c f right) v) ∙ by_op 7 op
 
-  pub backward_at : (n : ℕ) (labels from to : List ℕ) → edges_in n labels from to ≡ c.edges → at fs.ops f ≡ 8
-      → leads (edges_in n labels to from) 1 2 left (true_below fs c f right) v ≡ formula_at fs c f v
+  pub backward_at : {es : List (List ℕ)} {l : ℕ} (n : ℕ) (labels from to : List ℕ) → es ≡ edges_in n labels to from
+      → edges_in n labels from to ≡ c.edges → l ≡ left → at fs.ops f ≡ 8
+      → leads es 1 2 l (true_below fs c f right) v ≡ formula_at fs c f v
   unfolding meaning
-  backward_at n labels from to e op =
-      turned n labels from to left (true_below fs c f right) v ∙ (λ j. leads (e j) 2 1 left (true_below fs c f right) v) ∙ by_op 8 op
+  backward_at n labels from to t e el op =
+      (λ j. leads (t j) 1 2 (el j) (true_below fs c f right) v) ∙ turned n labels from to left (true_below fs c f right) v
+      ∙ (λ j. leads (e j) 2 1 left (true_below fs c f right) v) ∙ by_op 8 op
 
   -- with v kept in the slot
-  pub keeping_at : at fs.ops f ≡ 9 → true_below fs (keep c left v) f right v ≡ formula_at fs c f v
+  pub keeping_at : {a : ℕ} → a ≡ left → at fs.ops f ≡ 9 → true_below fs (keep c a v) f right v ≡ formula_at fs c f v
   unfolding meaning
-  keeping_at op = by_op 9 op
+  keeping_at e op = (λ j. true_below fs (keep c (e j) v) f right v) ∙ by_op 9 op
 
   -- at the vertex in the slot
   pub slot_at : at fs.ops f ≡ 11 → true_of (slot c left) (true_below fs c f right) ≡ formula_at fs c f v
   unfolding meaning
   slot_at op = by_op 11 op
-
--- the left part of "and" and "or" decides, or the right one is asked: t and u are their values
-pub connected : (fs : Formulas) (c : Context) (f v : ℕ) {k : ℕ} {t u : Bool} → at fs.ops f ≡ k → 5 ≤ k → k ≤ 6
-    → t ≡ true_below fs c f (at fs.lefts f) v → u ≡ true_below fs c f (at fs.rights f) v
-    → cond (cond (eqb k 5) t (not t)) u t ≡ formula_at fs c f v
-connected fs c f v {k} {t} {u} op low high et eu = elim (ℕ_discrete k 5) [
-  | yes e ↦ rw (eq-eqb k 5 e) (and_lazy t u ∙ (λ j. et j && eu j) ∙ conjunction_at fs c f v (op ∙ e))
-  | no n ↦ (let e : k ≡ 6 = omega arith in rw (ne_eqb k 5 n) (or_lazy t u ∙ (λ j. et j || eu j) ∙ disjunction_at fs c f v (op ∙ e)))
-]
-  where
-    and_lazy : (t u : Bool) → cond t u t ≡ (t && u)
-    and_lazy true u = refl
-    and_lazy false u = refl
-
-    or_lazy : (t u : Bool) → cond (not t) u t ≡ (t || u)
-    or_lazy true u = refl
-    or_lazy false u = refl
 
 -- ---- sets of vertices: where P or Q holds, of the asked ones
 module _ {asked r : List Bool} {P : ℕ → Bool} where
@@ -119,22 +111,6 @@ module _ {asked r : List Bool} {P : ℕ → Bool} where
       → Among asked (λ v. P v || Q v) r
   either {Q = Q} et eu er =
       record { members = λ v. er v ∙ rw (et.members v, eu.members v) (sym (and-or_distrib_left (is_in asked v) (P v) (Q v))) }
-
--- the columns that an edge scan goes along are those of its direction, so that it may go by the index
-pub along : {n : ℕ} {labels from to starts ends places : List ℕ} {l : ℕ} {backward : Bool} {first stop : ℕ}
-    → Direction backward from to starts ends → Span n labels (cond backward to from) places l backward first stop
-    → Span n labels starts places l backward first stop
-along d h = rw d.start h
-
--- the index is that of as many edges
-pub still_indexed : {m n : ℕ} {labels from to firsts counts places : List ℕ} → m ≡ n → Indexed n labels from to firsts counts places
-    → Indexed m labels from to firsts counts places
-still_indexed e h = rw e h
-
--- where a part is true that has no parts itself
-pub found_everywhere : (w : ℕ) {P : ℕ → Bool} {all found : List Bool} → ((v : ℕ) → placed w v ≡ P v) → ((v : ℕ) → v < 256 → is_in all v ≡ true)
-    → Among all (placed w) found → (v : ℕ) → v < 256 → is_in found v ≡ P v
-found_everywhere w says asks finds v l = finds.members v ∙ (λ j. asks v l j && says v j)
 
 -- a step: what is found where the edges end that start where p holds, Q there, says as much of these as Q itself
 module _ (es : List (List ℕ)) (a : ℕ) (p : ℕ → Bool) {Q : ℕ → Bool} {reached found : List Bool} (reaches : (w : ℕ) → is_in reached w ≡ leads es 2 1 a p w)
@@ -192,3 +168,25 @@ pub kept_none : (fs : Formulas) (c : Context) (f a b : ℕ) {g : ℕ} (asked : L
     → reads ≡ false → g ≡ b → Among asked (true_below fs c f g) r → (v : ℕ) → is_in r v ≡ (is_in asked v && true_below fs (keep c a v) f b v)
 kept_none fs c f a b asked e unread p h v =
     h.members v ∙ (λ j. is_in asked v && true_below fs c f (p j) v) ∙ (λ j. is_in asked v && sym (kept_unread fs f c a v b v (sym e ∙ unread)) j)
+
+-- ---- at each asked vertex by itself: those below v are answered, by P
+pub record EachBelow (asked : List Bool) (P : ℕ → Bool) (r : List Bool) (v : ℕ) : Type 0 where
+  pub filled : FilledTo (λ u. is_in asked u && P u) r v
+  pub whole : length r ≡ 256
+
+module _ {asked : List Bool} {P : ℕ → Bool} {r : List Bool} where
+  -- vertex v, by the index i: it is asked, and b is its answer; or it is not
+  module _ {v i : ℕ} (h : EachBelow asked P r v) (e : i ≡ v) (l : v < 256) where
+    pub each_asked : {b : Bool} → is_in asked i ≡ true → b ≡ P v → EachBelow asked P (set r i b) (v + 1)
+    each_asked {b} a answer =
+        rw e (record {
+          filled = filled_more _ r v b (rw (ap (is_in asked) (sym e) ∙ a) answer) (omega (arith, h.whole)) h.filled;
+          whole = length-set r v b ∙ h.whole;
+        })
+
+    pub each_passed : is_in asked i ≡ false → EachBelow asked P r (v + 1)
+    each_passed a = record { filled = filled_skip _ r v (rw (ap (is_in asked) (sym e) ∙ a) refl) h.filled; whole = h.whole }
+
+  pub each_answered : {n : ℕ} → n ≡ 256 → length asked ≡ 256 → EachBelow asked P r n → Among asked P r
+  each_answered e whole h =
+      record { members = everywhere _ r h.whole (λ v l. h.filled.done v (omega arith)) (λ v l. rw (beyond asked 256 v whole l) refl) }

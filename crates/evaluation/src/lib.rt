@@ -1,493 +1,241 @@
 // Formulas, evaluated at one vertex, and on sets of vertices: a table of 256 bools says at which of them a formula is true. At the object,
 // and at a vertex that is kept, a formula is evaluated by itself, down to a step that has several edges to go along: where these end is a
-// set. The columns of a record and of its index of edges are lent, so that none is copied. A step passes over the edges of its label only:
-// forward in the edges' own order, backward in the order of the index's places.
+// set. A step passes over the edges of its label only: forward in the edges' own order, backward in the order of the index's places.
 
 #![tactic(auto)]
 
-ghost use Rattle.std.specs.Prelude.{◌≡◌, true, false, cond, not, ◌≤◌, ◌<◌, eqb};
+ghost use Rattle.std.specs.Prelude.{◌≡◌, cond, not, ◌≤◌, ◌<◌, eqb};
 ghost use Rattle.common.specs.Limits.{most_formulas};
 ghost use Rattle.common.specs.Lists.{at};
-ghost use Rattle.edge_index.specs.Index.{Indexed};
-ghost use Rattle.vertices.specs.Steps.{leads, Among, edges_in};
-ghost use Rattle.formula.specs.Formula.{true_of, true_below};
-ghost use Rattle.formula.specs.Evaluation.{formulas_in, slot_in, context_of, context_in, formula_at, Direction};
+ghost use Rattle.vertices.specs.Steps.{leads, Among};
+ghost use Rattle.vertices.specs.Passes.{edges_along};
+ghost use Rattle.formula.specs.Formula.{true_of, true_below, formulas_of, holds};
+ghost use Rattle.formula.specs.Evaluation.{slot_in, context_in, formula_at};
+ghost use Rattle.formula.specs.Evaluation as spec;
 
-use common::{LABEL_COUNT, MOST_EDGES, MOST_FORMULAS, SLOT_COUNT};
-use vertices::{EVERY_VERTEX, NO_VERTEX};
+pub mod indexed;
 
-// A set of vertices: for each octet whether it is in the set.
-type Vertices = [bool; 256];
-
-// A formula's number as an index.
-fn index(x: u8) -> usize
-    ensures { result ≡ x }
-{
-    x as usize
-}
+use common::{MOST_FORMULAS, SLOT_COUNT};
+use formula::ContextNumbers;
+use formula::request::Request;
+use indexed::IndexedRecord;
+use vertices::Vertices;
+use vertices::pass::{Direction, Ends, Pass};
 
 // ---- at one vertex
 
 // Whether formula f is true at vertex x, if it is below n. Its parts must be below it in turn, so that it ends. A formula that has parts
 // has an op from 4 to 9, or 11.
 #[cycle(at_slot_connected_at_connective_evaluate_keep_each_scan_edges_step_at_true_at)]
-fn true_at<'a>(
-    q: formula::ContextNumbers,
-    labels: &'a [u8; MOST_EDGES],
-    from: &'a [u8; MOST_EDGES],
-    to: &'a [u8; MOST_EDGES],
-    firsts: &'a [u16; LABEL_COUNT],
-    counts: &'a [u16; LABEL_COUNT],
-    places: &'a [u16; MOST_EDGES],
-    ops: &'a [u8; MOST_FORMULAS],
-    lefts: &'a [u8; MOST_FORMULAS],
-    rights: &'a [u8; MOST_FORMULAS],
-    n: usize,
-    f: usize,
-    x: u8,
-) -> bool
-    requires { Indexed q.edge_count labels.now from.now to.now firsts.now counts.now places.now × (n ≤ most_formulas) }
-    ensures { result ≡ true_below (formulas_in ops.now lefts.now rights.now)
-        (context_in q labels.now from.now to.now) n f x }
+fn true_at(rules: &IndexedRecord<'_>, q: ContextNumbers, n: usize, f: usize, x: u8) -> bool
+    requires { n ≤ most_formulas }
+    ensures { result ≡ true_below (formulas_of rules.now) (context_in rules.now q) n f x }
 {
-    let w = formula::place_below(q, ops, lefts, n, f);
-    if w <= EVERY_VERTEX {
-        return vertices::is_placed(w, x);
+    if let Some(place) = rules.place_below(q, n, f) {
+        return place.has(x);
     }
-    let op = ops[f];
-    match op {
-        0..=6 => connected_at(
-            q, labels, from, to, firsts, counts, places, ops, lefts, rights, f, x,
-        ),
-        7 => step_at(
-            q, labels, from, to, firsts, counts, places, ops, lefts, rights, from, to, false, f, x,
-        ),
-        8 => step_at(
-            q, labels, from, to, firsts, counts, places, ops, lefts, rights, to, from, true, f, x,
-        ),
-        9 => true_at(
-            formula::keeping(q, lefts[f], x),
-            labels,
-            from,
-            to,
-            firsts,
-            counts,
-            places,
-            ops,
-            lefts,
-            rights,
-            f,
-            index(rights[f]),
-            x,
-        ),
-        10..=255 => at_slot(
-            q, labels, from, to, firsts, counts, places, ops, lefts, rights, f,
-        ),
+    let line = rules.line_of(f);
+    match line.op {
+        0..=6 => connected_at(rules, q, f, x),
+        7 => {
+            let pass = rules.edges_with(line.left, Direction::Forward);
+            step_at(rules, q, &pass, f, x)
+        }
+        8 => {
+            let pass = rules.edges_with(line.left, Direction::Backward);
+            step_at(rules, q, &pass, f, x)
+        }
+        9 => {
+            let kept = formula::keeping(q, line.left, x);
+            true_at(rules, kept, f, usize::from(line.right), x)
+        }
+        10..=255 => at_slot(rules, q, f),
     }
 }
 
-// The right part of a connective is asked: the left one, whose value is t, decides neither "and" (op 5) nor "or".
-fn asks_right(op: u8, t: bool) -> bool
-    ensures { result ≡ cond (eqb op 5) t (not t) }
-{
-    if op == 5 {
-        return t;
-    }
-    !t
-}
-
-// Whether formula f is true at x, whose op is 4, 5 or 6: not a, a and b, a or b.
+// Whether formula f is true at x, whose op is 4, 5 or 6: not a, a and b, a or b. The right part is asked only where the left one does not
+// decide.
 #[cycle(at_slot_connected_at_connective_evaluate_keep_each_scan_edges_step_at_true_at)]
-fn connected_at<'a>(
-    q: formula::ContextNumbers,
-    labels: &'a [u8; MOST_EDGES],
-    from: &'a [u8; MOST_EDGES],
-    to: &'a [u8; MOST_EDGES],
-    firsts: &'a [u16; LABEL_COUNT],
-    counts: &'a [u16; LABEL_COUNT],
-    places: &'a [u16; MOST_EDGES],
-    ops: &'a [u8; MOST_FORMULAS],
-    lefts: &'a [u8; MOST_FORMULAS],
-    rights: &'a [u8; MOST_FORMULAS],
-    f: usize,
-    x: u8,
-) -> bool
-    requires { Indexed q.edge_count labels.now from.now to.now firsts.now counts.now places.now
-        × (f < most_formulas) × (4 ≤ at ops.now f) × (at ops.now f ≤ 6) }
-    ensures { result ≡ formula_at (formulas_in ops.now lefts.now rights.now)
-        (context_in q labels.now from.now to.now) f x }
+fn connected_at(rules: &IndexedRecord<'_>, q: ContextNumbers, f: usize, x: u8) -> bool
+    requires few { f < most_formulas }
+    requires low { 4 ≤ at rules.now.formula_ops f }
+    requires high { at rules.now.formula_ops f ≤ 6 }
+    ensures { result ≡ formula_at (formulas_of rules.now) (context_in rules.now q) f x }
 {
-    let op = ops[f];
-    let t = true_at(
-        q,
-        labels,
-        from,
-        to,
-        firsts,
-        counts,
-        places,
-        ops,
-        lefts,
-        rights,
-        f,
-        index(lefts[f]),
-        x,
-    );
-    if op == 4 {
-        return !t;
+    let line = rules.line_of(f);
+    let left = true_at(rules, q, f, usize::from(line.left), x);
+    match line.op {
+        4 => !left,
+        5 => left && true_at(rules, q, f, usize::from(line.right), x),
+        _ => left || true_at(rules, q, f, usize::from(line.right), x),
     }
-    if asks_right(op, t) {
-        return true_at(
-            q,
-            labels,
-            from,
-            to,
-            firsts,
-            counts,
-            places,
-            ops,
-            lefts,
-            rights,
-            f,
-            index(rights[f]),
-            x,
-        );
-    }
-    t
 }
 
-// Whether an edge with the label of formula f leads from x, from `starts` to `ends`, to a vertex where its right part is true. A part
-// without parts is looked up at the ends of x's edges; another one is evaluated where the only edge ends, or where they all end.
+// Whether an edge of the pass leads from x to a vertex where the right part of formula f is true. A part without parts is looked up at the
+// ends of x's edges; another one is evaluated where the only edge ends, or where they all end.
 #[cycle(at_slot_connected_at_connective_evaluate_keep_each_scan_edges_step_at_true_at)]
-fn step_at<'a>(
-    q: formula::ContextNumbers,
-    labels: &'a [u8; MOST_EDGES],
-    from: &'a [u8; MOST_EDGES],
-    to: &'a [u8; MOST_EDGES],
-    firsts: &'a [u16; LABEL_COUNT],
-    counts: &'a [u16; LABEL_COUNT],
-    places: &'a [u16; MOST_EDGES],
-    ops: &'a [u8; MOST_FORMULAS],
-    lefts: &'a [u8; MOST_FORMULAS],
-    rights: &'a [u8; MOST_FORMULAS],
-    starts: &'a [u8; MOST_EDGES],
-    ends: &'a [u8; MOST_EDGES],
-    backward: bool,
-    f: usize,
-    x: u8,
-) -> bool
-    requires { Indexed q.edge_count labels.now from.now to.now firsts.now counts.now places.now
-        × (f < most_formulas) × Direction backward from.now to.now starts.now ends.now }
-    ensures { result ≡ leads (edges_in q.edge_count labels.now starts.now ends.now) 1 2
-        (at lefts.now f) (true_below (formulas_in ops.now lefts.now rights.now)
-        (context_in q labels.now from.now to.now) f (at rights.now f)) x }
+fn step_at(rules: &IndexedRecord<'_>, q: ContextNumbers, pass: &Pass<'_>, f: usize, x: u8) -> bool
+    requires { f < most_formulas }
+    ensures { let fs = formulas_of rules.now in result ≡ leads (edges_along pass.now) 1 2 pass.now.label
+        (true_below fs (context_in rules.now q) f (at fs.rights f)) x }
 {
-    let span = edge_index::positions_of(firsts, counts, lefts[f]);
-    let first = span.first;
-    let stop = span.stop;
-    let b = index(rights[f]);
-    let own = vertices::first_from(starts, places, backward, first, stop, x);
-    let w = formula::place_below(q, ops, lefts, f, b);
-    if w <= EVERY_VERTEX {
-        return vertices::leads_to(starts, ends, places, backward, first, stop, x, own, w);
+    let right = usize::from(rules.line_of(f).right);
+    if let Some(place) = rules.place_below(q, f, right) {
+        return pass.leads_to(x, place);
     }
-    let end = vertices::only_end(starts, ends, places, backward, first, stop, x, own);
-    if end < NO_VERTEX {
-        return true_at(
-            q, labels, from, to, firsts, counts, places, ops, lefts, rights, f, b, end as u8,
-        );
+    match pass.only_end(x) {
+        Ends::Nowhere => false,
+        Ends::Once(y) => true_at(rules, q, f, right, y),
+        Ends::Several => {
+            let there = pass.reached_from_one(x);
+            vertices::has_any(&evaluate(rules, q, f, right, &there))
+        }
     }
-    if end == NO_VERTEX {
-        return false;
-    }
-    let there = vertices::reached_from_one(starts, ends, places, backward, first, stop, x, own);
-    let t = evaluate(
-        q, labels, from, to, firsts, counts, places, ops, lefts, rights, f, b, &there,
-    );
-    vertices::has_any(t)
 }
 
 // Whether formula f is true, whose op is 11: its right part is evaluated at the vertex in the slot.
 #[cycle(at_slot_connected_at_connective_evaluate_keep_each_scan_edges_step_at_true_at)]
-fn at_slot<'a>(
-    q: formula::ContextNumbers,
-    labels: &'a [u8; MOST_EDGES],
-    from: &'a [u8; MOST_EDGES],
-    to: &'a [u8; MOST_EDGES],
-    firsts: &'a [u16; LABEL_COUNT],
-    counts: &'a [u16; LABEL_COUNT],
-    places: &'a [u16; MOST_EDGES],
-    ops: &'a [u8; MOST_FORMULAS],
-    lefts: &'a [u8; MOST_FORMULAS],
-    rights: &'a [u8; MOST_FORMULAS],
-    f: usize,
-) -> bool
-    requires { Indexed q.edge_count labels.now from.now to.now firsts.now counts.now places.now × (f < most_formulas) }
-    ensures { result ≡ true_of (slot_in q (at lefts.now f))
-        (true_below (formulas_in ops.now lefts.now rights.now)
-        (context_in q labels.now from.now to.now) f (at rights.now f)) }
+fn at_slot(rules: &IndexedRecord<'_>, q: ContextNumbers, f: usize) -> bool
+    requires { f < most_formulas }
+    ensures { let fs = formulas_of rules.now in result ≡ true_of (slot_in q (at fs.lefts f))
+        (true_below fs (context_in rules.now q) f (at fs.rights f)) }
 {
-    let v = formula::slot_vertex(q, lefts[f]);
-    if NO_VERTEX <= v {
-        return false;
+    let line = rules.line_of(f);
+    match formula::slot_vertex(q, line.left) {
+        Some(v) => true_at(rules, q, f, usize::from(line.right), v),
+        None => false,
     }
-    true_at(
-        q,
-        labels,
-        from,
-        to,
-        firsts,
-        counts,
-        places,
-        ops,
-        lefts,
-        rights,
-        f,
-        index(rights[f]),
-        v as u8,
-    )
 }
 
 // ---- on sets of vertices
 
 // Of the asked vertices those where formula f is true, if it is below n; else none. As in `true_at`.
 #[cycle(at_slot_connected_at_connective_evaluate_keep_each_scan_edges_step_at_true_at)]
-fn evaluate<'a, 'b>(
-    q: formula::ContextNumbers,
-    labels: &'a [u8; MOST_EDGES],
-    from: &'a [u8; MOST_EDGES],
-    to: &'a [u8; MOST_EDGES],
-    firsts: &'a [u16; LABEL_COUNT],
-    counts: &'a [u16; LABEL_COUNT],
-    places: &'a [u16; MOST_EDGES],
-    ops: &'a [u8; MOST_FORMULAS],
-    lefts: &'a [u8; MOST_FORMULAS],
-    rights: &'a [u8; MOST_FORMULAS],
+fn evaluate(
+    rules: &IndexedRecord<'_>,
+    q: ContextNumbers,
     n: usize,
     f: usize,
-    asked: &'b Vertices,
+    asked: &Vertices,
 ) -> Vertices
-    requires { Indexed q.edge_count labels.now from.now to.now firsts.now counts.now places.now × (n ≤ most_formulas) }
-    ensures { Among asked.now
-        (true_below (formulas_in ops.now lefts.now rights.now)
-        (context_in q labels.now from.now to.now) n f) result }
+    requires { n ≤ most_formulas }
+    ensures { Among asked.now (true_below (formulas_of rules.now) (context_in rules.now q) n f) result }
 {
-    let w = formula::place_below(q, ops, lefts, n, f);
-    if w <= EVERY_VERTEX {
-        return vertices::among_placed(asked, w);
+    if let Some(place) = rules.place_below(q, n, f) {
+        return place.among(asked);
     }
-    let op = ops[f];
-    match op {
-        0..=6 => connective(
-            q, labels, from, to, firsts, counts, places, ops, lefts, rights, f, asked,
-        ),
-        7 => scan_edges(
-            q, labels, from, to, firsts, counts, places, ops, lefts, rights, from, to, false, f,
-            asked,
-        ),
-        8 => scan_edges(
-            q, labels, from, to, firsts, counts, places, ops, lefts, rights, to, from, true, f,
-            asked,
-        ),
-        9 => keep_each(
-            q, labels, from, to, firsts, counts, places, ops, lefts, rights, f, asked,
-        ),
-        10..=255 => vertices::asked_if(
-            asked,
-            at_slot(
-                q, labels, from, to, firsts, counts, places, ops, lefts, rights, f,
-            ),
-        ),
+    let line = rules.line_of(f);
+    match line.op {
+        0..=6 => connective(rules, q, f, asked),
+        7 => {
+            let pass = rules.edges_with(line.left, Direction::Forward);
+            scan_edges(rules, q, &pass, f, asked)
+        }
+        8 => {
+            let pass = rules.edges_with(line.left, Direction::Backward);
+            scan_edges(rules, q, &pass, f, asked)
+        }
+        9 => keep_each(rules, q, f, asked),
+        10..=255 => vertices::asked_if(asked, at_slot(rules, q, f)),
     }
 }
 
 // Of the asked vertices those where formula f is true, whose op is 4, 5 or 6: not a, a and b, a or b.
 #[cycle(at_slot_connected_at_connective_evaluate_keep_each_scan_edges_step_at_true_at)]
-fn connective<'a, 'b>(
-    q: formula::ContextNumbers,
-    labels: &'a [u8; MOST_EDGES],
-    from: &'a [u8; MOST_EDGES],
-    to: &'a [u8; MOST_EDGES],
-    firsts: &'a [u16; LABEL_COUNT],
-    counts: &'a [u16; LABEL_COUNT],
-    places: &'a [u16; MOST_EDGES],
-    ops: &'a [u8; MOST_FORMULAS],
-    lefts: &'a [u8; MOST_FORMULAS],
-    rights: &'a [u8; MOST_FORMULAS],
-    f: usize,
-    asked: &'b Vertices,
-) -> Vertices
-    requires { Indexed q.edge_count labels.now from.now to.now firsts.now counts.now places.now
-        × (f < most_formulas) × (4 ≤ at ops.now f) × (at ops.now f ≤ 6) }
-    ensures { Among asked.now
-        (formula_at (formulas_in ops.now lefts.now rights.now)
-        (context_in q labels.now from.now to.now) f) result }
+fn connective(rules: &IndexedRecord<'_>, q: ContextNumbers, f: usize, asked: &Vertices) -> Vertices
+    requires few { f < most_formulas }
+    requires low { 4 ≤ at rules.now.formula_ops f }
+    requires high { at rules.now.formula_ops f ≤ 6 }
+    ensures { Among asked.now (formula_at (formulas_of rules.now) (context_in rules.now q) f) result }
 {
-    let op = ops[f];
-    let left = index(lefts[f]);
-    let right = index(rights[f]);
-    let t = evaluate(
-        q, labels, from, to, firsts, counts, places, ops, lefts, rights, f, left, asked,
-    );
-    match op {
-        4 => vertices::minus(*asked, t),
-        5 => evaluate(
-            q, labels, from, to, firsts, counts, places, ops, lefts, rights, f, right, &t,
-        ),
+    let line = rules.line_of(f);
+    let right = usize::from(line.right);
+    let t = evaluate(rules, q, f, usize::from(line.left), asked);
+    match line.op {
+        4 => vertices::minus(asked, &t),
+        5 => evaluate(rules, q, f, right, &t),
         _ => {
-            let u = evaluate(
-                q, labels, from, to, firsts, counts, places, ops, lefts, rights, f, right, asked,
-            );
-            vertices::union(t, u)
+            let u = evaluate(rules, q, f, right, asked);
+            vertices::union(&t, &u)
         }
     }
 }
 
-// Of the asked vertices those from which an edge with the label of formula f leads, from `starts` to `ends`, to one where its right
-// part is true. Only the edges with that label are passed over, at their positions in the order of the direction. A part that has parts
+// Of the asked vertices those from which an edge of the pass leads to one where the right part of formula f is true. A part that has parts
 // itself is asked only where such an edge ends.
 #[cycle(at_slot_connected_at_connective_evaluate_keep_each_scan_edges_step_at_true_at)]
-fn scan_edges<'a, 'b>(
-    q: formula::ContextNumbers,
-    labels: &'a [u8; MOST_EDGES],
-    from: &'a [u8; MOST_EDGES],
-    to: &'a [u8; MOST_EDGES],
-    firsts: &'a [u16; LABEL_COUNT],
-    counts: &'a [u16; LABEL_COUNT],
-    places: &'a [u16; MOST_EDGES],
-    ops: &'a [u8; MOST_FORMULAS],
-    lefts: &'a [u8; MOST_FORMULAS],
-    rights: &'a [u8; MOST_FORMULAS],
-    starts: &'a [u8; MOST_EDGES],
-    ends: &'a [u8; MOST_EDGES],
-    backward: bool,
+fn scan_edges(
+    rules: &IndexedRecord<'_>,
+    q: ContextNumbers,
+    pass: &Pass<'_>,
     f: usize,
-    asked: &'b Vertices,
+    asked: &Vertices,
 ) -> Vertices
-    requires { Indexed q.edge_count labels.now from.now to.now firsts.now counts.now places.now
-        × (f < most_formulas) × Direction backward from.now to.now starts.now ends.now }
-    ensures { Among asked.now
-        (leads (edges_in q.edge_count labels.now starts.now ends.now) 1 2 (at lefts.now f)
-        (true_below (formulas_in ops.now lefts.now rights.now)
-        (context_in q labels.now from.now to.now) f (at rights.now f))) result }
+    requires { f < most_formulas }
+    ensures { let fs = formulas_of rules.now in Among asked.now (leads (edges_along pass.now) 1 2 pass.now.label
+        (true_below fs (context_in rules.now q) f (at fs.rights f))) result }
 {
-    let span = edge_index::positions_of(firsts, counts, lefts[f]);
-    let first = span.first;
-    let stop = span.stop;
-    let b = index(rights[f]);
-    let w = formula::place_below(q, ops, lefts, f, b);
-    if w <= EVERY_VERTEX {
-        let t = vertices::among_placed(&vertices::all(), w);
-        return vertices::starts_to(starts, ends, places, backward, first, stop, asked, &t);
+    let right = usize::from(rules.line_of(f).right);
+    if let Some(place) = rules.place_below(q, f, right) {
+        return pass.starts_to(asked, &place.among(&vertices::all()));
     }
-    let there = vertices::reached_from(starts, ends, places, backward, first, stop, asked);
-    let t = evaluate(
-        q, labels, from, to, firsts, counts, places, ops, lefts, rights, f, b, &there,
-    );
-    vertices::starts_to(starts, ends, places, backward, first, stop, asked, &t)
+    let there = pass.reached_from(asked);
+    let found = evaluate(rules, q, f, right, &there);
+    pass.starts_to(asked, &found)
 }
 
 // Of the asked vertices those where formula f is true, whose op is 9: the right part is evaluated at each by itself, with that vertex
 // kept in the slot. A part that does not read the slot is evaluated at all of them together.
 #[cycle(at_slot_connected_at_connective_evaluate_keep_each_scan_edges_step_at_true_at)]
-fn keep_each<'a, 'b>(
-    q: formula::ContextNumbers,
-    labels: &'a [u8; MOST_EDGES],
-    from: &'a [u8; MOST_EDGES],
-    to: &'a [u8; MOST_EDGES],
-    firsts: &'a [u16; LABEL_COUNT],
-    counts: &'a [u16; LABEL_COUNT],
-    places: &'a [u16; MOST_EDGES],
-    ops: &'a [u8; MOST_FORMULAS],
-    lefts: &'a [u8; MOST_FORMULAS],
-    rights: &'a [u8; MOST_FORMULAS],
-    f: usize,
-    asked: &'b Vertices,
-) -> Vertices
-    requires { Indexed q.edge_count labels.now from.now to.now firsts.now counts.now places.now
-        × (f < most_formulas) × (at ops.now f ≡ 9) }
-    ensures { Among asked.now
-        (formula_at (formulas_in ops.now lefts.now rights.now)
-        (context_in q labels.now from.now to.now) f) result }
+fn keep_each(rules: &IndexedRecord<'_>, q: ContextNumbers, f: usize, asked: &Vertices) -> Vertices
+    requires few { f < most_formulas }
+    requires op { at rules.now.formula_ops f ≡ 9 }
+    ensures { Among asked.now (formula_at (formulas_of rules.now) (context_in rules.now q) f) result }
 {
-    let a = lefts[f];
-    let right = rights[f];
-    let b = index(right);
-    if !formula::reads_slot(ops, lefts, rights, f, right, a) {
-        return evaluate(
-            q, labels, from, to, firsts, counts, places, ops, lefts, rights, f, b, asked,
-        );
+    let line = rules.line_of(f);
+    let right = usize::from(line.right);
+    if !rules.reads_slot(f, line.right, line.left) {
+        return evaluate(rules, q, f, right, asked);
     }
-    let each = vertices::whole(*asked);
     let mut r = vertices::none();
-    let mut i: usize = 0;
-    while i < 256 {
-        let k = i;
-        i += 1;
-        if each[k] {
-            let v = k as u8;
-            r[k] = true_at(
-                formula::keeping(q, a, v),
-                labels,
-                from,
-                to,
-                firsts,
-                counts,
-                places,
-                ops,
-                lefts,
-                rights,
-                f,
-                b,
-                v,
-            );
+    for v in 0..=255u8 {
+        let i = usize::from(v);
+        if asked[i] {
+            let kept = formula::keeping(q, line.left, v);
+            r[i] = true_at(rules, kept, f, right, v);
         }
     }
     r
 }
 
-// Whether formula f is true at the object.
-pub fn true_at_object<'a>(
-    edge_count: usize,
-    labels: &'a [u8; MOST_EDGES],
-    from: &'a [u8; MOST_EDGES],
-    to: &'a [u8; MOST_EDGES],
-    firsts: &'a [u16; LABEL_COUNT],
-    counts: &'a [u16; LABEL_COUNT],
-    places: &'a [u16; MOST_EDGES],
-    ops: &'a [u8; MOST_FORMULAS],
-    lefts: &'a [u8; MOST_FORMULAS],
-    rights: &'a [u8; MOST_FORMULAS],
+// ---- at the object
+
+// Whether formula f is true at the object, where the requestor holds the roles.
+pub fn true_at_object(
+    rules: &IndexedRecord<'_>,
     roles: u16,
     object: u8,
     requestor: u8,
     f: usize,
 ) -> bool
-    requires { Indexed edge_count labels.now from.now to.now firsts.now counts.now places.now }
-    ensures { result ≡ true_below (formulas_in ops.now lefts.now rights.now)
-        (context_of roles object requestor (edges_in edge_count labels.now from.now to.now))
-        most_formulas f object }
+    ensures { result ≡ spec.true_at_object rules.now roles object requestor f }
 {
-    let q = formula::ContextNumbers {
-        edge_count: edge_count,
-        slots: [NO_VERTEX; SLOT_COUNT],
-        roles: roles,
-        object: object,
-        requestor: requestor,
-    };
-    true_at(
-        q,
-        labels,
-        from,
-        to,
-        firsts,
-        counts,
-        places,
-        ops,
-        lefts,
-        rights,
-        MOST_FORMULAS,
-        f,
+    let q = ContextNumbers {
+        slots: [None; SLOT_COUNT],
+        roles,
         object,
-    )
+        requestor,
+    };
+    true_at(rules, q, MOST_FORMULAS, f, object)
+}
+
+// Whether formula f is true at the request's object.
+pub fn holds(request: &Request<'_>, f: usize) -> bool
+    requires { f < request.now.rules.formula_count }
+    ensures { result ≡ holds request.now.rules f request.now.object request.now.object request.now.requestor }
+{
+    let rules = IndexedRecord {
+        columns: request.columns,
+    };
+    true_at_object(&rules, request.roles, request.object, request.requestor, f)
 }

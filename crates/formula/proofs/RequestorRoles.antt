@@ -1,21 +1,29 @@
 -- The roles of the requestor, joined line by line.
-use Prim.Native.Nat.{ℕ, ◌+◌, ◌%◌, ◌<◌, max}
-use mathlib.Core.Path.{◌≡◌, refl, sym, ◌∙◌, ap, ap₂}
-use mathlib.Core.Bool.{false, ◌&&◌, ◌||◌}
+use Prim.Native.Nat.{ℕ, ◌+◌, ◌/◌, ◌%◌, ◌^◌, ◌<◌, max}
+use mathlib.Core.Path.{◌≡◌, refl, sym, ◌∙◌, ap}
+use mathlib.Core.Bool.{Bool, true, false, ◌&&◌, ◌||◌}
 use mathlib.Core.List.{List, [], ◌∷◌}
-use native.Mathlib.Nat.{div-eq_of_lt}
+use native.Mathlib.Nat.{div-eq_of_lt, lt_of_lt_of_le}
 use native.Mathlib.Numerals.{add-one}
 use native.Mathlib.Omega.{arith}
-use native.Mathlib.Decide.{ℕ_discrete}
-use lib.Pow.{pow_pos}
+use native.Mathlib.Decide.{ℕ_discrete, dec_lt}
+use lib.Pow.{pow_pos, pow_mono}
 use lib.Bits.{bit_or}
-use lib.Dec.{eqb}
-use borrow.Author.Tests.{eq-eqb, ne_eqb}
+use lib.Dec.{eqb, ltb}
+use Rattle.std.specs.Bool.{if◌then◌else◌}
+use borrow.Author.Tests.{eq-eqb, ne_eqb, lt-ltb, le-ltb}
 use Rattle.common.specs.Lists.{at}
 use Rattle.common.specs.ListLaws.{any_more}
 use Rattle.common.specs.Sets.{member}
 use Rattle.common.specs.SetLaws.{bit, bit_or_lem, bit_two}
 use Rattle.formula.specs.Evaluation.{holds_role_in}
+
+-- a number of 16 bits, halved so often, as `unbounded_shr` has it: it has no bit at 16 or above
+pub halved : (x a : ℕ) → x < 65536 → (if ltb a 16 then x / 2 ^ a else 0) ≡ x / 2 ^ a
+halved x a l = elim (dec_lt a 16) [
+  | yes h ↦ rw (lt-ltb a 16 h) refl
+  | no n ↦ rw (le-ltb a 16 (omega arith), div-eq_of_lt (lt_of_lt_of_le l (pow_mono {i = 16} {j = a} (omega arith)))) refl
+]
 
 -- nothing is a member of 0
 pub member_none : (a : ℕ) → member a 0 ≡ false
@@ -40,14 +48,26 @@ pub record RolesBy (objects roles : List ℕ) (s held i : ℕ) : Type 0 where
 pub roles_none : (objects roles : List ℕ) (s : ℕ) → RolesBy objects roles s 0 0
 roles_none objects roles s = record { holds = λ a. member_none a }
 
-pub roles_more : {objects roles : List ℕ} {s held i : ℕ} (more : ℕ) → RolesBy objects roles s held i
-    → ((a : ℕ) → member a more ≡ (eqb (at objects i) s && member a (at roles i))) → RolesBy objects roles s (bit_or held more) (i + 1)
-roles_more {objects} {roles} {s} {held} {i} more h m =
-    record {
-      holds =
-          λ a.
-          member_or a held more
-          ∙ ap₂ ◌||◌ (h.holds a) (m a)
-          ∙ sym (any_more (λ u. eqb (at u 0) s && member a (at u 1)) i (λ j. at objects j ∷ at roles j ∷ []))
-          ∙ ap (λ (n : ℕ). holds_role_in n objects roles s a) (sym (add-one i));
-    }
+-- one line more: its roles are joined, where it is the requestor's
+module _ {objects roles : List ℕ} {s held i : ℕ} (h : RolesBy objects roles s held i) where
+  one_more : {joined : ℕ} → ((a : ℕ) → member a joined ≡ (member a held || (eqb (at objects i) s && member a (at roles i))))
+      → RolesBy objects roles s joined (i + 1)
+  one_more m =
+      record {
+        holds =
+            λ a.
+            m a
+            ∙ ap (λ (b : Bool). b || (eqb (at objects i) s && member a (at roles i))) (h.holds a)
+            ∙ sym (any_more (λ u. eqb (at u 0) s && member a (at u 1)) i (λ j. at objects j ∷ at roles j ∷ []))
+            ∙ ap (λ (n : ℕ). holds_role_in n objects roles s a) (sym (add-one i));
+      }
+
+  pub roles_more : at objects i ≡ s → RolesBy objects roles s (bit_or held (at roles i)) (i + 1)
+  roles_more e = one_more (λ a. rw (eq-eqb (at objects i) s e) (member_or a held (at roles i)))
+
+  pub roles_same : (at objects i ≡ s → ⊥) → RolesBy objects roles s held (i + 1)
+  roles_same n = one_more (λ a. rw (ne_eqb (at objects i) s n) (or_false (member a held)))
+    where
+      or_false : (b : Bool) → b ≡ (b || false)
+      or_false true = refl
+      or_false false = refl

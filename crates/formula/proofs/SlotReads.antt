@@ -1,10 +1,8 @@
--- Which formulas read a slot, kept in a table beside them as a loop goes through them: each op's own law, and one formula more.
-use Prim.Native.Nat.{ℕ, zero, suc, ◌+◌, ◌≤◌, ◌<◌}
-use mathlib.Core.Path.{◌≡◌, refl, sym, ap, ◌∙◌}
-use mathlib.Core.Logic.{⊎_elim}
-use mathlib.Core.Bool.{Bool, false, not, cond, ◌&&◌, ◌||◌}
+-- Which formulas read a slot, kept in a table beside them as a loop goes through them: one formula more.
+use Prim.Native.Nat.{ℕ, ◌+◌, ◌<◌}
+use mathlib.Core.Path.{◌≡◌, sym, ap, ◌∙◌}
+use mathlib.Core.Bool.{Bool, false, cond}
 use mathlib.Core.List.{List}
-use native.Mathlib.Nat.{eq-or-lt_of_le}
 use native.Mathlib.Omega.{arith}
 use native.Mathlib.Numerals.{add-one}
 use native.Mathlib.Decide.{ℕ_discrete}
@@ -15,43 +13,12 @@ use borrow.Author.Tests.{eq-eqb, ne_eqb}
 use Rattle.common.specs.Limits.{most_formulas}
 use Rattle.common.specs.Lists.{at}
 use Rattle.rows.specs.Op.{op_of}
-use Rattle.rows.specs.OpLaws.{op_above}
 use Rattle.vertices.specs.Steps.{is_in}
 use Rattle.formula.specs.Formula.{Formulas}
 use Rattle.formula.specs.Uses.{reads_of, reads_slot}
 use Rattle.vertices.proofs.VertexSets.{all_false}
 
--- ---- by the op's number
-module _ (a b : ℕ) (part : ℕ → Bool) (k : ℕ) where
-  pub reads_not : (op : ℕ) → op ≡ 4 → part a ≡ reads_of (op_of op) a b part k
-  reads_not op e = rw e
-
-  pub reads_two : (op : ℕ) → 5 ≤ op → op ≤ 6 → (part a || part b) ≡ reads_of (op_of op) a b part k
-  reads_two op l h = ⊎_elim (λ e. rw (← e) refl) (λ m. let e : op ≡ 6 = omega arith in rw e) (eq-or-lt_of_le l)
-
-  pub reads_step : (op : ℕ) → 7 ≤ op → op ≤ 8 → part b ≡ reads_of (op_of op) a b part k
-  reads_step op l h = ⊎_elim (λ e. rw (← e) refl) (λ m. let e : op ≡ 8 = omega arith in rw e) (eq-or-lt_of_le l)
-
-  pub reads_keeping : (op : ℕ) → op ≡ 9 → (not (eqb a k) && part b) ≡ reads_of (op_of op) a b part k
-  reads_keeping op e = rw e
-
-  pub reads_in_slot : (op : ℕ) → op ≡ 10 → eqb a k ≡ reads_of (op_of op) a b part k
-  reads_in_slot op e = rw e
-
-  pub reads_at_slot : (op : ℕ) → op ≡ 11 → (eqb a k || part b) ≡ reads_of (op_of op) a b part k
-  reads_at_slot op e = rw e
-
-  pub reads_plain : (op : ℕ) → op ≤ 3 → false ≡ reads_of (op_of op) a b part k
-  reads_plain zero l = refl
-  reads_plain (suc zero) l = refl
-  reads_plain (suc (suc zero)) l = refl
-  reads_plain (suc (suc (suc zero))) l = refl
-  reads_plain (suc (suc (suc (suc n)))) l = absurd (omega arith)
-
-  pub reads_above : (op : ℕ) → 11 < op → false ≡ reads_of (op_of op) a b part k
-  reads_above op l = rw (op_above op l)
-
--- ---- the formulas below i are marked where they read slot a; no other is
+-- the formulas below i are marked where they read slot a; no other is
 pub record Marked (fs : Formulas) (a : ℕ) (marks : List Bool) (i : ℕ) : Type 0 where
   pub size : length marks ≡ most_formulas
   pub each : (g : ℕ) → is_in marks g ≡ reads_slot fs i g a

@@ -5,3 +5,4 @@ pub mod FirstMeaning
 pub mod SlotExamples
 pub mod Evaluation
 pub mod EvaluationLaws
+pub mod Requests

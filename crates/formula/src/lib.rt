@@ -1,205 +1,169 @@
-// Formulas: what one is evaluated for, the slots that it reads, and where a formula without parts is true. The columns of a record are
-// lent, so that none is copied.
+// Formulas: what one is evaluated for, the slots that it reads, and where a formula without parts is true. The record is lent, so
+// that none of its columns is copied.
 
 #![tactic(auto)]
 
-ghost use Rattle.std.specs.Prelude.{◌≡◌, false, ◌&&◌, List, ℕ, ◌≤◌, ◌<◌, eqb};
+ghost use Rattle.std.specs.Prelude.{◌≡◌, ◌≤◌, ◌<◌};
 ghost use Rattle.common.specs.Limits.{most_users, most_formulas};
+ghost use Rattle.common.specs.Lists.{at};
 ghost use Rattle.common.specs.Sets.{member};
 ghost use Rattle.rows.specs.Op.{op_of};
-ghost use Rattle.vertices.specs.Steps.{is_in, no_vertex, placed};
-ghost use Rattle.formula.specs.Formula.{true_of, keep};
+ghost use Rattle.policy.specs.declared.Record as records;
+ghost use Rattle.vertices.specs.Steps.{is_in};
+ghost use Rattle.formula.specs.Formula.{keep, formulas_of};
 ghost use Rattle.formula.specs.Uses.{reads_of, reads_slot};
-ghost use Rattle.formula.specs.Evaluation.{formulas_in, slot_of, slot_in, context_in, holds_role_in, PlaceOf, PlaceBelow};
+ghost use Rattle.formula.specs.Requests.{RolesHeld};
+ghost use Rattle.formula.specs.Evaluation.{slot_of, slot_in, context_in, PlaceOf, PlaceBelow};
 
-use common::{HIGHEST_ROLE, HIGHEST_SLOT, MOST_FORMULAS, MOST_USERS, SLOT_COUNT};
-use vertices::{EVERY_VERTEX, NO_VERTEX};
+pub mod request;
 
-// In place of a vertex: that a formula has parts.
-const HAS_PARTS: u16 = 258;
+use common::{HIGHEST_SLOT, MOST_FORMULAS, SLOT_COUNT};
+use policy::Record;
+use vertices::Place;
 
-// What a formula is evaluated for, beside the columns: how many edges there are, the vertex in each slot, the roles that the
-// requestor holds, the object and the requestor.
+// What a formula is evaluated for, beside the record: the vertex in each slot, where it is set, the roles that the requestor holds, the
+// object and the requestor.
 #[derive(Clone, Copy)]
 pub struct ContextNumbers {
-    pub edge_count: usize,
-    pub slots: [u16; SLOT_COUNT],
+    pub slots: [Option<u8>; SLOT_COUNT],
     pub roles: u16,
     pub object: u8,
     pub requestor: u8,
+}
+
+// A formula's line: its op, and two numbers whose meaning the op says.
+#[derive(Clone, Copy)]
+pub struct Line {
+    pub op: u8,
+    pub left: u8,
+    pub right: u8,
+}
+
+// The line of formula f.
+pub fn line_of(rules: &Record, f: usize) -> Line
+    requires { f < most_formulas }
+    ensures op { result.op ≡ at rules.now.formula_ops f }
+    ensures left { result.left ≡ at rules.now.formula_lefts f }
+    ensures right { result.right ≡ at rules.now.formula_rights f }
+{
+    Line {
+        op: rules.formula_ops[f],
+        left: rules.formula_lefts[f],
+        right: rules.formula_rights[f],
+    }
 }
 
 // Role a is one of the roles.
 fn holds_role(roles: u16, a: u8) -> bool
     ensures { result ≡ member a roles }
 {
-    if HIGHEST_ROLE < a {
-        return false;
-    }
-    (roles >> a) % 2 == 1
-}
-
-// A vertex or a formula's number as an index.
-fn index(x: u8) -> usize
-    ensures { (result ≡ x) × (result < 256) }
-{
-    x as usize
+    roles.unbounded_shr(u32::from(a)) % 2 == 1
 }
 
 // ---- slots
 
-// The vertex in slot a; 256 where it is unset, or there is no such slot.
-pub fn slot_vertex(q: ContextNumbers, a: u8) -> u16
+// The vertex in slot a, if it is set and there is such a slot.
+pub fn slot_vertex(q: ContextNumbers, a: u8) -> Option<u8>
     ensures { slot_of result ≡ slot_in q a }
 {
-    if HIGHEST_SLOT < a {
-        return NO_VERTEX;
-    }
-    let i = a as usize;
-    q.slots[i]
+    q.slots.get(usize::from(a)).copied().flatten()
 }
 
 // With the vertex v kept in slot a, whatever that held.
 pub fn keeping(mut q: ContextNumbers, a: u8, v: u8) -> ContextNumbers
-    ensures { (result.edge_count ≡ q.edge_count) × ((labels from to : List ℕ) →
-        context_in result labels from to ≡ keep (context_in q labels from to) a v) }
+    ensures { (r : records.Record) → context_in r result ≡ keep (context_in r q) a v }
 {
     if a <= HIGHEST_SLOT {
-        let i = a as usize;
-        q.slots[i] = v as u16;
+        q.slots[usize::from(a)] = Some(v);
     }
     q
 }
 
 // Formula g is marked.
-fn is_marked(marks: [bool; MOST_FORMULAS], g: u8) -> bool
-    ensures { result ≡ is_in marks g }
+fn is_marked(marks: &[bool; MOST_FORMULAS], g: u8) -> bool
+    ensures { result ≡ is_in marks.now g }
 {
-    let i = index(g);
-    if i < MOST_FORMULAS {
-        return marks[i];
-    }
-    false
+    marks.get(usize::from(g)).copied().unwrap_or(false)
 }
 
-// The formula (op, left, right) reads slot a, where the formulas that do are marked among those below it.
-fn reads_by_parts<'a>(op: u8, left: u8, right: u8, a: u8, marks: &'a [bool; MOST_FORMULAS]) -> bool
-    ensures { result ≡ reads_of (op_of op) left right (is_in marks.now) a }
+// A formula with this line reads slot a, where the formulas that do are marked among those below it.
+fn reads_by_parts(line: Line, a: u8, marks: &[bool; MOST_FORMULAS]) -> bool
+    ensures { result ≡ reads_of (op_of line.op) line.left line.right (is_in marks.now) a }
 {
-    let x = is_marked(*marks, left);
-    let y = is_marked(*marks, right);
-    match op {
+    let x = is_marked(marks, line.left);
+    let y = is_marked(marks, line.right);
+    match line.op {
         4 => x,
         5..=6 => x | y,
         7..=8 => y,
-        9 => (left != a) & y,
-        10 => left == a,
-        11 => (left == a) | y,
+        9 => (line.left != a) & y,
+        10 => line.left == a,
+        11 => (line.left == a) | y,
         _ => false,
     }
 }
 
 // Formula f, if it is below n, reads what slot a holds where f is evaluated.
-pub fn reads_slot<'a>(
-    ops: &'a [u8; MOST_FORMULAS],
-    lefts: &'a [u8; MOST_FORMULAS],
-    rights: &'a [u8; MOST_FORMULAS],
-    n: usize,
-    f: u8,
-    a: u8,
-) -> bool
+pub fn reads_slot(rules: &Record, n: usize, f: u8, a: u8) -> bool
     requires { n ≤ most_formulas }
-    ensures { result ≡ reads_slot (formulas_in ops.now lefts.now rights.now) n f a }
+    ensures { result ≡ reads_slot (formulas_of rules.now) n f a }
 {
     let mut marks = [false; MOST_FORMULAS];
-    let mut i = 0;
-    while i < n {
-        marks[i] = reads_by_parts(ops[i], lefts[i], rights[i], a, &marks);
-        i += 1;
+    for i in 0..n {
+        marks[i] = reads_by_parts(line_of(rules, i), a, &marks);
     }
-    is_marked(marks, f)
+    is_marked(&marks, f)
 }
 
 // ---- formulas
 
-// Where op 10 is true: at the vertex in slot a; nowhere if there is none.
-fn slot_place(q: ContextNumbers, a: u8) -> u16
-    ensures { (result ≤ no_vertex) × ((v : ℕ) → placed result v ≡ true_of (slot_in q a) (λ w. eqb v w)) }
-{
-    let v = slot_vertex(q, a);
-    if NO_VERTEX <= v {
-        return NO_VERTEX;
-    }
-    v
-}
-
-// Where a formula without parts is true, by its op and its a: at one vertex, nowhere or everywhere. An op above 11 is true nowhere.
-fn place_of(q: ContextNumbers, op: u8, left: u8) -> u16
+// Where a formula without parts is true, by its op and its a; nothing of one that has parts. An op above 11 is true nowhere.
+fn place_of(q: ContextNumbers, op: u8, left: u8) -> Option<Place>
     ensures { PlaceOf q op left result }
 {
     match op {
-        0 => EVERY_VERTEX,
-        1 => q.requestor as u16,
-        2 => q.object as u16,
-        3 => {
-            if holds_role(q.roles, left) {
-                EVERY_VERTEX
-            } else {
-                NO_VERTEX
-            }
-        }
-        4..=9 => HAS_PARTS,
-        10 => slot_place(q, left),
-        11 => HAS_PARTS,
-        12..=255 => NO_VERTEX,
+        0 => Some(Place::Everywhere),
+        1 => Some(Place::At(q.requestor)),
+        2 => Some(Place::At(q.object)),
+        3 => Some(if holds_role(q.roles, left) {
+            Place::Everywhere
+        } else {
+            Place::Nowhere
+        }),
+        4..=9 => None,
+        10 => Some(match slot_vertex(q, left) {
+            Some(v) => Place::At(v),
+            None => Place::Nowhere,
+        }),
+        11 => None,
+        12..=255 => Some(Place::Nowhere),
     }
 }
 
-// Where formula f is true, if it has no parts and is below n; nowhere if it is not below n.
-pub fn place_below<'a>(
-    q: ContextNumbers,
-    ops: &'a [u8; MOST_FORMULAS],
-    lefts: &'a [u8; MOST_FORMULAS],
-    n: usize,
-    f: usize,
-) -> u16
+// Where formula f is true, if it is below n; nowhere if it is not; nothing of one below n that has parts.
+pub fn place_below(rules: &Record, q: ContextNumbers, n: usize, f: usize) -> Option<Place>
     requires { n ≤ most_formulas }
-    ensures { PlaceBelow q ops.now lefts.now n f result }
+    ensures { PlaceBelow rules.now q n f result }
 {
     if n <= f {
-        return NO_VERTEX;
+        return Some(Place::Nowhere);
     }
-    place_of(q, ops[f], lefts[f])
+    let line = line_of(rules, f);
+    place_of(q, line.op, line.left)
 }
 
 // ---- the requestor's roles
 
-// The roles of a user line, where it is the requestor's.
-fn roles_if(same: bool, roles: u16) -> u16
-    ensures { (a : ℕ) → member a result ≡ (same && member a roles) }
-{
-    if same {
-        return roles;
-    }
-    0
-}
-
 // The roles that the requestor holds.
-pub fn roles_of<'a>(
-    count: usize,
-    objects: &'a [u8; MOST_USERS],
-    roles: &'a [u16; MOST_USERS],
-    requestor: u8,
-) -> u16
-    requires { count ≤ most_users }
-    ensures { (a : ℕ) → member a result ≡ holds_role_in count objects.now roles.now requestor a }
+pub fn roles_of(rules: &Record, requestor: u8) -> u16
+    requires { rules.now.user_count ≤ most_users }
+    ensures { RolesHeld rules.now requestor result }
 {
-    let mut held: u16 = 0;
-    let mut i = 0;
-    while i < count {
-        let more = roles_if(objects[i] == requestor, roles[i]);
-        held = held | more;
-        i += 1;
+    let mut held = 0;
+    for i in 0..rules.user_count {
+        if rules.user_objects[i] == requestor {
+            held |= rules.user_roles[i];
+        }
     }
     held
 }

@@ -1,9 +1,9 @@
 -- A question or a ticket on a record that agrees the book is answered as the book answers it, and leaves a record that agrees the book.
-use Rattle.std.specs.Prelude.{ℕ, ◌≡◌, refl, Bool, true, false, not, cond, List, [], ◌∷◌, leb, eqb}
-use Rattle.std.proofs.Common.{sym, ◌∙◌, eqb-true, ne_eqb}
+use Rattle.std.specs.Prelude.{ℕ, ◌≡◌, refl, Bool, not, List, [], ◌∷◌, leb}
+use Rattle.std.proofs.Common.{sym, ◌∙◌, eq-eqb, ne_eqb}
+use native.Mathlib.Decide.{ℕ_discrete}
 use Rattle.std.proofs.Math.Path.{ap, subst}
 use Rattle.std.proofs.Math.Option.{Option, none, some}
-use Rattle.std.proofs.lemmas.Bool.{eqb-false}
 use Rattle.common.specs.Causes.{cause, first}
 use Rattle.common.specs.Refusals.{no_method, no_object, not_user, not_loadable}
 use Rattle.policy.specs.declared.Record.{Record}
@@ -17,13 +17,13 @@ use Rattle.justification.specs.declared.Question.{Question}
 use Rattle.justification.specs.Justification.{demarcation_has, have, meets, consistent, candidates, least}
 use Rattle.justification.specs.Predicates.{question_refusal, is_enabled}
 use Rattle.memo.specs.Walk.{formula_of}
-use Rattle.access.specs.declared.Answer.{Answer}
+use Rattle.access.specs.Answers.{Answer}
 use Rattle.access.specs.Access.{refused, eager, lazy}
 use Rattle.access.specs.CorrectMemo.{number_of, set_of, LeastAnswer}
 use Rattle.access.specs.CorrectMemoLaws.{eager_true, lazy_true}
 use Rattle.tickets.specs.declared.Ticket.{Ticket}
 use Rattle.tickets.specs.Tickets.{constraint_refusal, set_refusal, after_question, ticket_refusal}
-use Rattle.history.specs.Book.{Book, plain, ask_refusal, verdict, enabled_in, ask, check_refusal, number_and_set}
+use Rattle.history.specs.Book.{Book, ask_refusal, verdict, enabled_in, ask, check_refusal, number_and_set}
 use Rattle.history.proofs.Agrees.{Agrees}
 
 -- ---- what stays as the bundle has it
@@ -106,21 +106,18 @@ module _ (b : Record) (book : Book) (r : Record) (h : Agrees b book r) where
       (when : question_refusal r q ≡ 0 → LeastAnswer r q (question r q))
       (other : (n : ℕ) → n ≡ question_refusal r q → (n ≡ 0 → ⊥) → question r q ≡ refused n r) where
     pub asked_answer : number_and_set (question r q) ≡ ask b book q
-    asked_answer = go (eqb (ask_refusal b q) 0) refl
-      where
-        go : (v : Bool) → eqb (ask_refusal b q) 0 ≡ v
-            → number_and_set (question r q) ≡ cond v (verdict (least b q.method (enabled_in b book q))) (plain (ask_refusal b q))
-        go true e = least_answer_is q (question r q) (when (refusal_is q ∙ eqb-true (ask_refusal b q) 0 e))
-        go false e = ap number_and_set (other (ask_refusal b q) (sym (refusal_is q)) (eqb-false (ask_refusal b q) 0 e))
+    asked_answer =
+        elim (ℕ_discrete (ask_refusal b q) 0) [
+          | yes z ↦ least_answer_is q (question r q) (when (refusal_is q ∙ z)) ∙ sym (rw (eq-eqb (ask_refusal b q) 0 z) refl)
+          | no z ↦ ap number_and_set (other (ask_refusal b q) (sym (refusal_is q)) z) ∙ sym (rw (ne_eqb (ask_refusal b q) 0 z) refl)
+        ]
 
     pub asked_agrees : Agrees b book (question r q).rules
-    asked_agrees = go (eqb (question_refusal r q) 0) refl
-      where
-        go : (v : Bool) → eqb (question_refusal r q) 0 ≡ v → Agrees b book (question r q).rules
-        go true e = left_agrees q (question r q) (when (eqb-true (question_refusal r q) 0 e))
-        go false e =
-            subst (λ (a : Answer). Agrees b book a.rules) (sym (other (question_refusal r q) refl (eqb-false (question_refusal r q) 0 e)))
-            h
+    asked_agrees =
+        elim (ℕ_discrete (question_refusal r q) 0) [
+          | yes z ↦ left_agrees q (question r q) (when z)
+          | no z ↦ subst (λ (a : Answer). Agrees b book a.rules) (sym (other (question_refusal r q) refl z)) h
+        ]
 
   -- ---- eager and lazy
 

@@ -5,7 +5,8 @@ use Rattle.std.proofs.Common.{sym, ◌∙◌, ap, arith}
 use Rattle.std.proofs.Math.Bool.{true, false}
 use Rattle.std.proofs.lemmas.Bool.{false≢true}
 use Rattle.std.proofs.Math.Dec.{eqb}
-use borrow.Author.Tests.{eqb-true}
+use borrow.Author.Tests.{eq-eqb, ne_eqb}
+use native.Mathlib.Decide.{ℕ_discrete}
 use Rattle.common.specs.Limits.{most_edges}
 use Rattle.common.specs.Lists.{same}
 use Rattle.common.specs.ListLaws.{length_table, same_is}
@@ -15,7 +16,7 @@ use Rattle.common.specs.Refusals.{edge_out_of_range, edge_present, edge_absent, 
 use Rattle.rows.specs.Checks.{edge_in_range, edge_key}
 use Rattle.policy.specs.declared.Record.{Record}
 use Rattle.policy.specs.declared.Memo.{Memo}
-use Rattle.policy.specs.declared.Edited.{Edited}
+use Rattle.policy.specs.EditAnswers.{Edited}
 use Rattle.policy.specs.Table.{edge, row, rows, emptied, changed}
 use Rattle.policy.specs.Rows.{key}
 use Rattle.policy.specs.Loadable.{loadable}
@@ -126,12 +127,7 @@ emptied_lengths = record { knowns = refl; values = refl }
 
 module _ (r : Record) (n : ℕ) (es : List (List ℕ)) (m : Memo) where
   edited_number : (edited r n es m).number ≡ n
-  edited_number = go (eqb n 0) refl
-    where
-      go : (v : Bool) → eqb n 0 ≡ v
-          → (cond {A = Edited} v (record { number = 0; rules = changed r es m }) (record { number = n; rules = r })).number ≡ n
-      go true e = sym (eqb-true n 0 e)
-      go false e = refl
+  edited_number = elim (ℕ_discrete n 0) [ yes z ↦ rw (eq-eqb n 0 z) (sym z) | no z ↦ rw (ne_eqb n 0 z) refl ]
 
   edited_refused : eqb n 0 ≡ false → (edited r n es m).rules ≡ r
   edited_refused e =
@@ -191,11 +187,11 @@ module _ (b : Record) (book : Book) (r : Record) (h : Agrees b book r) where
 
     pub add_agrees : Agrees b (book_after_call b book (add l x y)) (added r l x y).rules
     unfolding book_after_call
-    add_agrees = go (eqb (add_refusal b book l x y) 0) refl
-      where
-        go : (v : Bool) → eqb (add_refusal b book l x y) 0 ≡ v → Agrees b (cond v (it ∷ book) book) (added r l x y).rules
-        go true e = add_accepted (add_number_lem ∙ eqb-true (add_refusal b book l x y) 0 e)
-        go false e = subst⁻¹ (Agrees b book) (add_refused e) h
+    add_agrees =
+        elim (ℕ_discrete (add_refusal b book l x y) 0) [
+          | yes z ↦ rw (eq-eqb (add_refusal b book l x y) 0 z) (add_accepted (add_number_lem ∙ z))
+          | no z ↦ let n = ne_eqb (add_refusal b book l x y) 0 z in rw n (subst⁻¹ (Agrees b book) (add_refused n) h)
+        ]
 
     -- ---- removing
 
@@ -230,8 +226,8 @@ module _ (b : Record) (book : Book) (r : Record) (h : Agrees b book r) where
 
     pub remove_agrees : Agrees b (book_after_call b book (remove l x y)) (removed r l x y).rules
     unfolding book_after_call
-    remove_agrees = go (eqb (remove_refusal b book l x y) 0) refl
-      where
-        go : (v : Bool) → eqb (remove_refusal b book l x y) 0 ≡ v → Agrees b (cond v (without it book) book) (removed r l x y).rules
-        go true e = remove_accepted (remove_number_lem ∙ eqb-true (remove_refusal b book l x y) 0 e)
-        go false e = subst⁻¹ (Agrees b book) (remove_refused e) h
+    remove_agrees =
+        elim (ℕ_discrete (remove_refusal b book l x y) 0) [
+          | yes z ↦ rw (eq-eqb (remove_refusal b book l x y) 0 z) (remove_accepted (remove_number_lem ∙ z))
+          | no z ↦ let n = ne_eqb (remove_refusal b book l x y) 0 z in rw n (subst⁻¹ (Agrees b book) (remove_refused n) h)
+        ]

@@ -1,10 +1,11 @@
 -- THE THEOREM of demand 3, over every loaded text and every list of calls.
 use Rattle.std.specs.Prelude.{ℕ, ◌^◌, ◌<◌, ◌≡◌, refl, ◌↔◌, ◌≢◌, Bool, not, cond, List, [], ◌∷◌, leb, eqb, length}
 use Rattle.std.proofs.Math.Path.{sym}
-use Rattle.std.proofs.Common.{◌∙◌, ap, subst, arith, eqb-true, eq-eqb, ne_eqb, leb-false}
+use Rattle.std.proofs.Common.{◌∙◌, ap, subst, arith, eq-eqb, ne_eqb, leb-false}
 use Rattle.std.proofs.Math.Bool.{true, false, false≢true}
 use Rattle.std.proofs.Math.Option.{Option, none, some}
-use Rattle.std.proofs.lemmas.Bool.{eqb-false, lt-leb}
+use Rattle.std.proofs.lemmas.Bool.{lt-leb}
+use native.Mathlib.Decide.{ℕ_discrete}
 use Rattle.common.specs.Limits.{most_edges}
 use Rattle.common.specs.Lists.{same}
 use Rattle.common.specs.BoolLaws.{or_left}
@@ -24,7 +25,7 @@ use Rattle.justification.specs.Order.{IsLeast}
 use Rattle.justification.specs.OrderFact as order
 use Rattle.reading.specs.Loading.{load}
 use Rattle.reading.specs.LoadingLaws.{as_loaded}
-use Rattle.access.specs.declared.Answer.{Answer}
+use Rattle.access.specs.Answers.{Answer}
 use Rattle.access.specs.Access.{refused, eager, lazy}
 use Rattle.access.specs.AccessLaws.{eager_counts, lazy_counts, same_always, lazy_at_most}
 use Rattle.access.specs.CorrectMemo.{CorrectMemo}
@@ -55,16 +56,12 @@ edit_holds : (before after : Book) (n number : ℕ) (r left : Record) → number
     → EditHolds before after number r left
 edit_holds before after n number r left e changes stays keeps =
     record {
-      accepted = (λ z. changes (sym e ∙ z), λ (d, f). decide n e (λ x. absurd (f (ap (λ (k : Book). holds_edge k d) (sym (stays x))))));
+      accepted = (λ z. changes (sym e ∙ z), λ (d, f). e ∙ decide (λ x. f (ap (λ (k : Book). holds_edge k d) (sym (stays x)))));
       refused = λ x. (keeps (λ z. x (e ∙ z)), stays (λ z. x (e ∙ z)));
     }
   where
-    decide : (k : ℕ) → number ≡ k → (k ≢ 0 → ⊥) → number ≡ 0
-    decide k i f = go (eqb k 0) refl
-      where
-        go : (v : Bool) → eqb k 0 ≡ v → number ≡ 0
-        go true u = i ∙ eqb-true k 0 u
-        go false u = absurd (f (eqb-false k 0 u))
+    decide : (n ≢ 0 → ⊥) → n ≡ 0
+    decide f = elim (ℕ_discrete n 0) [ yes z ↦ z | no z ↦ absurd (f z) ]
 
 -- what an accepted edit says of its edge
 absent : (x y z : Bool) → first (cause edge_out_of_range x ∷ cause edge_present y ∷ cause edges_full z ∷ []) ≡ 0 → y ≡ false
@@ -149,33 +146,20 @@ module _ (b : Record) (book : Book) (r : Record) (h : Agrees b book r) where
     found_among c f w = f (satisfies_inside b q.method (enabled_in b book q) w) (satisfies_passes b q.method (enabled_in b book q) c w)
 
     -- what the verdict of a least set says
-    module _ (found : Option ℕ) (is : IsLeast (role_count b) b.principal_count will_do found) where
-      verdict_denied : ((verdict found).number ≡ no_set) ↔ ((c : ℕ) → Satisfies b book q c → ⊥)
-      verdict_denied = go found is
-        where
-          go : (f : Option ℕ) → IsLeast (role_count b) b.principal_count will_do f
-              → (((verdict f).number ≡ no_set) ↔ ((c : ℕ) → Satisfies b book q c → ⊥))
-          go none n = (λ e c w. found_among c (n c) w, λ f. refl)
-          go (some c) n = (λ e. absurd (omega arith), λ f. absurd (f c (does c n.0 n.1)))
+    verdict_denied : (found : Option ℕ) → IsLeast (role_count b) b.principal_count will_do found
+        → (((verdict found).number ≡ no_set) ↔ ((c : ℕ) → Satisfies b book q c → ⊥))
+    verdict_denied none n = (λ e c w. found_among c (n c) w, λ f. refl)
+    verdict_denied (some c) n = (λ e. absurd (omega arith), λ f. absurd (f c (does c n.0 n.1)))
 
-      verdict_empty : (verdict found).number ≡ no_set → (verdict found).set ≡ 0
-      verdict_empty = go found
-        where
-          go : (f : Option ℕ) → (verdict f).number ≡ no_set → (verdict f).set ≡ 0
-          go none e = refl
-          go (some c) e = absurd (omega arith)
+    verdict_empty : (found : Option ℕ) → (verdict found).number ≡ no_set → (verdict found).set ≡ 0
+    verdict_empty none e = refl
+    verdict_empty (some c) e = absurd (omega arith)
 
-      verdict_granted : (verdict found).number ≢ no_set
-          → ((verdict found).number ≡ 0) × Satisfies b book q (verdict found).set
-          × ((c : ℕ) → Satisfies b book q c → Before (role_count b) (verdict found).set c)
-      verdict_granted = go found is
-        where
-          go : (f : Option ℕ) → IsLeast (role_count b) b.principal_count will_do f
-              → (verdict f).number ≢ no_set
-              → ((verdict f).number ≡ 0) × Satisfies b book q (verdict f).set
-              × ((c : ℕ) → Satisfies b book q c → Before (role_count b) (verdict f).set c)
-          go none n x = absurd (x refl)
-          go (some c) n x = (refl, does c n.0 n.1, λ d w. found_among d (n.2 d) w)
+    verdict_granted : (found : Option ℕ) → IsLeast (role_count b) b.principal_count will_do found → (verdict found).number ≢ no_set
+        → ((verdict found).number ≡ 0) × Satisfies b book q (verdict found).set
+        × ((c : ℕ) → Satisfies b book q c → Before (role_count b) (verdict found).set c)
+    verdict_granted none n x = absurd (x refl)
+    verdict_granted (some c) n x = (refl, does c n.0 n.1, λ d w. found_among d (n.2 d) w)
 
     -- of any answer that is the book's reply
     question_holds : (a : Answer) → number_and_set a ≡ ask b book q
@@ -189,7 +173,7 @@ module _ (b : Record) (book : Book) (r : Record) (h : Agrees b book r) where
               (verdict_denied (least b q.method (enabled_in b book q)) least_does);
           empty =
               λ k. subst (λ (v : BookAnswer). v.number ≡ no_set → v.set ≡ 0) (sym (is_verdict k))
-              (verdict_empty (least b q.method (enabled_in b book q)) least_does);
+              (verdict_empty (least b q.method (enabled_in b book q)));
           granted = is_least;
           fewest = λ k n c w. before_members ((is_least k n).2 c w);
           by_relation = λ k n c w e. before_role_count e ((is_least k n).2 c w);
@@ -236,11 +220,9 @@ module _ (b : Record) (book : Book) (r : Record) (h : Agrees b book r) where
 
     -- a question that gets the number 0 was known
     granted_known : (a : Answer) → QuestionHolds b book q r a → a.number ≡ 0 → Known b q
-    granted_known a hold z = go (eqb (ask_refusal b q) 0) refl
-      where
-        go : (v : Bool) → eqb (ask_refusal b q) 0 ≡ v → Known b q
-        go true u = asked_known (eqb-true (ask_refusal b q) 0 u)
-        go false u = absurd ((hold.refused (λ k. eqb-false (ask_refusal b q) 0 u (known_asked k))).3 z)
+    granted_known a hold z =
+        elim (ℕ_discrete (ask_refusal b q) 0)
+        [ yes u ↦ asked_known u | no u ↦ absurd ((hold.refused (λ k. u (known_asked k))).3 z) ]
 
     granted_set : (a : Answer) → QuestionHolds b book q r a → a.number ≡ 0 → check_refusal b book (ticket_of q a.set) ≡ 0
     granted_set a hold z =
@@ -281,11 +263,9 @@ module _ (b : Record) (book : Book) (r : Record) (h : Agrees b book r) where
     not_known n z = n (asked_known asks (sym (refusal_is b book r h asks) ∙ z))
 
     accepted_known : ticket_refusal r t ≡ 0 → Known b asks
-    accepted_known z = go (eqb (question_refusal r asks) 0) refl
-      where
-        go : (v : Bool) → eqb (question_refusal r asks) 0 ≡ v → Known b asks
-        go true u = asked_known asks (sym (refusal_is b book r h asks) ∙ eqb-true (question_refusal r asks) 0 u)
-        go false u = let n = eqb-false (question_refusal r asks) 0 u in absurd (n (sym (ticket_after r t n) ∙ z))
+    accepted_known z =
+        elim (ℕ_discrete (question_refusal r asks) 0)
+        [ yes u ↦ asked_known asks (sym (refusal_is b book r h asks) ∙ u) | no u ↦ absurd (u (sym (ticket_after r t u) ∙ z)) ]
 
     ticket_holds : TicketHolds b book t r (ticket_refusal r t) (engine_leaves r (check_ticket t))
     unfolding engine_leaves

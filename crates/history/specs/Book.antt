@@ -8,13 +8,13 @@ use Rattle.common.specs.Refusals.{edge_out_of_range, edge_present, edge_absent, 
 use Rattle.octets.specs.Line.{Framed, refused, octets, kind_octet, body_of, lines}
 use Rattle.rows.specs.Checks.{edge_in_range}
 use Rattle.policy.specs.declared.Record.{Record}
-use Rattle.policy.specs.declared.Edited.{Edited}
+use Rattle.policy.specs.EditAnswers.{Edited}
 use Rattle.policy.specs.Edits.{added, removed}
 use Rattle.formula.specs.Formula.{is_user, holds_on}
 use Rattle.justification.specs.declared.Question.{Question}
 use Rattle.justification.specs.Justification.{least}
 use Rattle.memo.specs.Walk.{formula_of}
-use Rattle.access.specs.declared.Answer.{Answer}
+use Rattle.access.specs.Answers.{Answer}
 use Rattle.access.specs.Access.{eager, lazy}
 use Rattle.tickets.specs.declared.Ticket.{Ticket}
 use Rattle.tickets.specs.Tickets.{set_refusal, after_question, ticket_refusal}

@@ -5,7 +5,7 @@ use Rattle.policy.specs.declared.Record.{Record}
 use Rattle.policy.specs.Edits.{removed}
 use Rattle.justification.specs.declared.Question.{Question}
 use Rattle.justification.specs.Predicates.{liberal, strict}
-use Rattle.access.specs.declared.Answer.{Answer}
+use Rattle.access.specs.Answers.{Answer}
 use Rattle.access.specs.Access.{eager, lazy}
 use Rattle.tickets.specs.Tickets.{ticket_of, ticket_refusal}
 use Rattle.reading.specs.Loading.{load}

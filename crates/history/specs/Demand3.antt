@@ -15,7 +15,7 @@ use Rattle.justification.specs.Satisfying as satisfying
 use Rattle.justification.specs.Predicates.{question_refusal}
 use Rattle.memo.specs.Memo.{memo_for, newly}
 use Rattle.reading.specs.Loading.{load}
-use Rattle.access.specs.declared.Answer.{Answer}
+use Rattle.access.specs.Answers.{Answer}
 use Rattle.access.specs.Access.{eager, lazy}
 use Rattle.tickets.specs.declared.Ticket.{Ticket}
 use Rattle.tickets.specs.Tickets.{ticket_of, ticket_refusal, SetNumber}

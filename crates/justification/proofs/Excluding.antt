@@ -1,28 +1,19 @@
 -- The exclusions of each principal, pair by pair, as the loop goes.
-use Prim.Native.Nat.{ℕ, suc, ◌+◌, ◌^◌, ◌<◌}
-use mathlib.Core.Path.{◌≡◌, refl, sym, ◌∙◌, ap, subst}
-use mathlib.Core.Logic.{◌↔◌, ◌⊎◌, inl, inr, ⊎_elim}
-use mathlib.Core.Bool.{true, false≢true}
-use mathlib.Core.List.{List, [], ◌∷◌}
-use native.Mathlib.Omega.{arith}
-use native.Mathlib.Decide.{ℕ_discrete}
-use native.Mathlib.Numerals.{add-one}
-use lib.Bits.{bit_or}
-use lib.Dec.{eqb}
-use lib.ListN.{length, set, replicate, length-set}
-use lib.Seq.{get_or-set_same, get_or-set_other}
-use borrow.Author.Tests.{eqb-true, eq-eqb}
+use Rattle.std.specs.Prelude.{ℕ, suc, ◌+◌, ◌^◌, ◌<◌, ◌≡◌, refl, ◌↔◌, ◌⊎◌, true, List, [], ◌∷◌, length, set, eqb}
+use Rattle.std.proofs.Common.{sym, ◌∙◌, ap, subst, inl, inr, ⊎_elim, arith, add-one, length-set, eqb-true, eq-eqb}
+use Rattle.std.proofs.Math.Decide.{ℕ_discrete}
+use Rattle.std.proofs.Math.Seq.{get_or-set_same, get_or-set_other}
+use Rattle.std.specs.Int.Bits.{bit_or}
 use Rattle.common.specs.Limits.{most_principals}
-use Rattle.common.specs.ListLaws.{zero_at}
 use Rattle.common.specs.Lists.{at, any, same}
 use Rattle.common.specs.ListLaws.{any_more}
 use Rattle.common.specs.Sets.{In}
-use Rattle.common.specs.SetLaws.{none_in_zero, in_or_l, in_or_r, or_in, in_pow, pow_in}
+use Rattle.common.specs.SetLaws.{in_or_l, in_or_r, or_in, in_pow, pow_in}
 use Rattle.common.specs.BoolLaws.{and_cases, and_both, or_cases, or_left, or_right}
 use Rattle.closure.specs.Closure.{pairs_of}
 use Rattle.justification.specs.Satisfying.{AmongPairs}
 
--- ---- one member more at a index
+-- ---- one member more at an index
 
 pub set_in : (l : List ℕ) (i v x y : ℕ) → i < length l → {w : ℕ} → w ≡ bit_or (at l i) (2 ^ v)
     → (In y (at (set l i w) x) ↔ (In y (at l x) ⊎ ((i ≡ x) × (v ≡ y))))
@@ -64,13 +55,8 @@ same_pair x y a b = (
 
 module _ (lows highs : List ℕ) where
   pub record Excludes (i : ℕ) (sets : List ℕ) : Type 0 where
+    pub sized : length sets ≡ most_principals
     pub each : (p q : ℕ) → p < most_principals → (In q (at sets p) ↔ AmongPairs i lows highs p q)
-
-  pub excludes_none : Excludes 0 (replicate most_principals 0)
-  excludes_none =
-      record {
-        each = λ p q l. (λ m. absurd (none_in_zero q (subst (In q) (zero_at most_principals p) m)), λ e. absurd (false≢true e));
-      }
 
   one_more : (i p q : ℕ) → any (same (p ∷ q ∷ [])) (pairs_of (suc i) lows highs) ≡ true
       ↔ ((any (same (p ∷ q ∷ [])) (pairs_of i lows highs) ≡ true) ⊎ ((at lows i ≡ p) × (at highs i ≡ q)))
@@ -81,12 +67,18 @@ module _ (lows highs : List ℕ) where
         λ t. e ∙ ⊎_elim (λ x. or_left _ _ x) (λ x. or_right (any (same (p ∷ q ∷ [])) (pairs_of i lows highs)) _ (s.1 x)) t,
       )
 
-  pub excludes_more : {i a b : ℕ} {sets after : List ℕ} → Excludes i sets → a ≡ at lows i → b ≡ at highs i
-      → ((x y : ℕ) → x < most_principals → (In y (at after x) ↔ (In y (at sets x) ⊎ (((a ≡ x) × (b ≡ y)) ⊎ ((b ≡ x) × (a ≡ y))))))
-      → Excludes (i + 1) after
-  excludes_more {i} {a} {b} {sets} {after} h ea eb w =
-      subst (λ (n : ℕ). Excludes n after) (sym (add-one i)) (record { each = λ p q l. (there p q l, back p q l) })
+  pub excludes_more : {i a b v w : ℕ} {sets : List ℕ} → Excludes i sets → a ≡ at lows i → b ≡ at highs i
+      → a < most_principals → b < most_principals → v ≡ bit_or (at sets a) (2 ^ b) → w ≡ bit_or (at (set sets a v) b) (2 ^ a)
+      → Excludes (i + 1) (set (set sets a v) b w)
+  excludes_more {i} {a} {b} {v} {w} {sets} h ea eb la lb ev ew =
+      subst (λ (n : ℕ). Excludes n after) (sym (add-one i)) (record { sized = simp length-set h.sized; each = λ p q l. (there p q l, back p q l) })
     where
+      after : List ℕ
+      after = set (set sets a v) b w
+
+      more : (x y : ℕ) → (In y (at after x) ↔ (In y (at sets x) ⊎ (((a ≡ x) × (b ≡ y)) ⊎ ((b ≡ x) × (a ≡ y)))))
+      more = pair_in sets a b h.sized la lb ev ew
+
       there : (p q : ℕ) → p < most_principals → In q (at after p) → AmongPairs (suc i) lows highs p q
       there p q l m =
           ⊎_elim
@@ -97,11 +89,11 @@ module _ (lows highs : List ℕ) where
           (λ (y, z). or_left _ _ ((one_more i p q).1 (inr (sym ea ∙ y, sym eb ∙ z))))
           (λ (y, z). or_right (any (same (p ∷ q ∷ [])) (pairs_of (suc i) lows highs)) _ ((one_more i q p).1 (inr (sym ea ∙ z, sym eb ∙ y))))
           x)
-          ((w p q l).0 m)
+          ((more p q).0 m)
 
       back : (p q : ℕ) → p < most_principals → AmongPairs (suc i) lows highs p q → In q (at after p)
       back p q l m =
-          (w p q l).1
+          (more p q).1
           (⊎_elim
           (λ x. ⊎_elim (λ y. inl ((h.each p q l).1 (or_left _ _ y))) (λ (y, z). inr (inl (ea ∙ y, eb ∙ z))) ((one_more i p q).0 x))
           (λ x. ⊎_elim (λ y. inl ((h.each p q l).1 (or_right (any (same (p ∷ q ∷ [])) (pairs_of i lows highs)) _ y)))

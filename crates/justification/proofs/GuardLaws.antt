@@ -1,46 +1,41 @@
 -- Privileges gathered as a number: whose they are, and that they meet the guard where the principals do.
 use Rattle.std.specs.Prelude.{ℕ, ◌^◌, ◌<◌, ◌≤◌, ◌≡◌, refl, ◌↔◌, Bool, true, false, not, cond, ◌&&◌, List, [], ◌∷◌, eqb}
-use Rattle.std.proofs.Common.{sym, ◌∙◌, arith}
-use Rattle.common.specs.Limits.{most_demarcations, most_principals, privilege_count}
+use Rattle.std.proofs.Common.{◌∙◌, arith}
+use Rattle.common.specs.Limits.{most_users, most_demarcations, most_principals, privilege_count}
 use Rattle.common.specs.Lists.{at, any, every}
 use Rattle.common.specs.BoolLaws.{and_cases, and_both, or_left, or_left_only}
 use Rattle.common.specs.QuantifierLaws.{any_table, table_any, some_of, all_of_lem}
 use Rattle.common.specs.Sets.{member, In}
 use Rattle.common.specs.SetLaws.{member_in, in_member, in_lt}
-use Rattle.closure.specs.Closure.{pairs_of, reaches}
 use Rattle.tables.specs.Loads.{pairs_load}
 use Rattle.policy.specs.declared.Record.{Record}
-use Rattle.policy.specs.Table.{Kind, formula, demarcation, hierarchy, principal, exclusion, prerequisite, method}
-use Rattle.policy.specs.Loadable.{table_loads}
-use Rattle.policy.specs.LoadableLaws.{hierarchy_pairs, prerequisite_pairs, table_few}
+use Rattle.policy.specs.Table.{Kind, user, formula, demarcation, hierarchy, principal, exclusion, prerequisite, method}
+use Rattle.policy.specs.Loadable.{table_loads, loadable}
+use Rattle.policy.specs.LoadableLaws.{hierarchy_pairs, prerequisite_pairs, table_few, loadable_table}
 use Rattle.policy.specs.NamedLaws.{principal_named, exclusion_named}
 use Rattle.search.specs.Steps.{MetBy, Gathers}
-use Rattle.justification.specs.Justification.{demarcation_has, has_below, have, listed, meets}
+use Rattle.justification.specs.Justification.{inferior, demarcation_has, have, listed, meets}
 use Rattle.justification.specs.Masked.{MasksFit, grounds_of}
 use Rattle.justification.specs.declared.Question.{Question}
 use Rattle.justification.specs.Predicates.{is_enabled, enabled}
 use Rattle.justification.specs.MarkedSets.{Marks, Those}
 
 -- what a demarcation has is what those at or below it list
-pub below_gathers : (pairs : List (List ℕ)) (n : ℕ) (lists : List ℕ) (d s g : ℕ) → Marks n (λ e. reaches pairs e d) s
-    → Gathers n s lists g → (k : ℕ) → (In k g ↔ (has_below pairs n lists d k ≡ true))
-unfolding has_below
-below_gathers pairs n lists d s g marks gathers k = (
+pub below_gathers : (r : Record) (d s g : ℕ) → Marks r.demarcation_count (λ e. inferior r e d) s
+    → Gathers r.demarcation_count s r.demarcation_privileges g → (k : ℕ) → (In k g ↔ (demarcation_has r d k ≡ true))
+unfolding demarcation_has
+below_gathers r d s g marks gathers k = (
   λ i.
       let (e, l, j, q) = gathers.only k i in
-      table_any (λ e. reaches pairs e d && member k (at lists e)) (λ (e : ℕ). e) n e l (and_both _ _ (marks.only e j).1 (in_member q)),
+      table_any lists (λ (e : ℕ). e) r.demarcation_count e l (and_both _ _ (marks.only e j).1 (in_member q)),
   λ t.
-      let (e, l, x) = any_table (λ e. reaches pairs e d && member k (at lists e)) (λ (e : ℕ). e) n t in
-      let (y, z) = and_cases (reaches pairs e d) _ x in
+      let (e, l, x) = any_table lists (λ (e : ℕ). e) r.demarcation_count t in
+      let (y, z) = and_cases (inferior r e d) _ x in
       gathers.all k e l (marks.all e l y) (member_in z),
 )
-
--- on a record's columns: what its demarcation has
-pub has_below_lem : (r : Record) (d k : ℕ)
-    → has_below (pairs_of r.hierarchy_count r.inferiors r.superiors) r.demarcation_count r.demarcation_privileges d k
-    ≡ demarcation_has r d k
-unfolding has_below demarcation_has
-has_below_lem r d k = refl
+  where
+    lists : ℕ → Bool
+    lists e = inferior r e d && member k (at r.demarcation_privileges e)
 
 -- the columns that privileges are granted by are those of a record that loads
 pub grants_fit : (r : Record) → ((j : Kind) → table_loads r j ≡ true)
@@ -70,15 +65,18 @@ masks_fit r m loads l =
       asked = let n = table_few r method (loads method) in omega arith;
     }
 
--- privileges that are granted by the columns are those that the record's principals have
-pub granted_below : (r : Record) (grants : List ℕ)
-    → ((p k : ℕ) → p < r.principal_count → (In k (at grants p)
-    ↔ (has_below (pairs_of r.hierarchy_count r.inferiors r.superiors) r.demarcation_count r.demarcation_privileges
-    (at r.principal_demarcations p) k ≡ true)))
-    → (p k : ℕ) → p < r.principal_count → (In k (at grants p) ↔ (demarcation_has r (at r.principal_demarcations p) k ≡ true))
-granted_below r grants h p k l =
-    let e = has_below_lem r (at r.principal_demarcations p) k in
-    (λ i. sym e ∙ (h p k l).0 i, λ t. (h p k l).1 (e ∙ t))
+-- the same of one that some bundle loads to, as rules are
+module _ (r : Record) (loads : loadable r ≡ true) where
+  pub rules_grants_fit : (pairs_load r.demarcation_count r.hierarchy_count r.inferiors r.superiors ≡ true)
+      × (r.demarcation_count ≤ most_demarcations) × (r.principal_count ≤ most_principals)
+      × ((p : ℕ) → p < r.principal_count → at r.principal_demarcations p < r.demarcation_count)
+  rules_grants_fit = grants_fit r (loadable_table r loads)
+
+  pub rules_masks_fit : (m : ℕ) → m < r.method_count → MasksFit (grounds_of r) m
+  rules_masks_fit m l = masks_fit r m (loadable_table r loads) l
+
+  pub few_users : r.user_count ≤ most_users
+  few_users = table_few r user (loadable_table r loads user)
 
 -- the guard of method m, which lists privileges below that count: g need tell only of those
 module _ (r : Record) (m : ℕ) (bounded : at r.method_privileges m < 2 ^ privilege_count) (ps : List ℕ) (g : ℕ)

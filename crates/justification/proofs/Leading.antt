@@ -1,11 +1,6 @@
 -- The columns of the closed relation are the sets of what leads to each thing along the pairs.
-use Prim.Native.Nat.{ℕ, min, ◌<◌, ◌≤◌}
-use mathlib.Core.Path.{◌≡◌, subst}
-use mathlib.Core.Logic.{◌↔◌}
-use mathlib.Core.Bool.{Bool, true, false}
-use mathlib.Core.List.{List, []}
-use native.Mathlib.Omega.{arith}
-use lib.ListN.{get_or}
+use Rattle.std.specs.Prelude.{ℕ, min, ◌<◌, ◌≤◌, ◌≡◌, ◌↔◌, Bool, true, false, List, [], get_or}
+use Rattle.std.proofs.Common.{subst, arith}
 use Rattle.common.specs.Limits.{most_related, most_pairs}
 use Rattle.common.specs.Lists.{at}
 use Rattle.closure.specs.Closure.{On, Listed, pairs_of, Closes, reaches}

@@ -4,4 +4,3 @@ pub mod Marking
 mod Excluding
 pub mod Asking
 mod Leading
-mod Masking

@@ -1,5 +1,5 @@
 -- The candidates of the search over the masks of a record are the sets that pass, and so its answer is the least of them.
-use Rattle.std.specs.Prelude.{ℕ, ◌^◌, ◌<◌, ◌≡◌, ◌↔◌, Bool, true, false, not, ◌&&◌, eqb}
+use Rattle.std.specs.Prelude.{ℕ, ◌^◌, ◌<◌, ◌≡◌, ◌↔◌, Bool, true, false, not, ◌&&◌, eqb, Option as Answer, Some, None}
 use Rattle.std.proofs.Math.Path.{refl, ap}
 use Rattle.std.proofs.Common.{sym, ◌∙◌, subst, arith, eqb-true}
 use Rattle.std.proofs.Math.Option.{Option, none, some}
@@ -11,8 +11,6 @@ use Rattle.common.specs.Sets.{member, In, Within}
 use Rattle.common.specs.SetLaws.{member_in, in_member, in_lt}
 use Rattle.policy.specs.declared.Record.{Record}
 use Rattle.search.specs.declared.Masks.{Masks}
-use Rattle.search.specs.declared.Found.{Found}
-use Rattle.search.specs.declared.Found.TheVariants.{Set, Nothing}
 use Rattle.search.specs.Answers.{FoundValues, granted, denied, found_values}
 use Rattle.search.specs.Answers.GrantedOrDenied.{grants, denies}
 use Rattle.search.specs.Search.{Consistent, Given, Met, Candidate, Before, role_count_in, Least}
@@ -141,8 +139,8 @@ least_masked r m a s k {v} h = go h
     go (denies q x) = q ∙ is_least none (λ y b t. x y ((candidate_passes r m a s k y b).1 t))
 
 -- and say which set that is, or that there is none
-module _ (o : Option ℕ) {f : Found} (e : found_values f ≡ least_values o) where
-  pub least_set : {c : ℕ} → f ≡ Set c → some c ≡ o
+module _ (o : Option ℕ) {f : Answer ℕ} (e : found_values f ≡ least_values o) where
+  pub least_set : {c : ℕ} → f ≡ Some c → some c ≡ o
   unfolding least_values
   least_set {c} a = go o (ap found_values (sym a) ∙ e)
     where
@@ -150,7 +148,7 @@ module _ (o : Option ℕ) {f : Found} (e : found_values f ≡ least_values o) wh
       go (some d) q = ap (λ (v : FoundValues). some v.set) q
       go none q = let z = ap (λ (v : FoundValues). v.number) q in absurd (omega arith)
 
-  pub least_none : f ≡ Nothing → none ≡ o
+  pub least_none : f ≡ None → none ≡ o
   unfolding least_values
   least_none a = go o (ap found_values (sym a) ∙ e)
     where

@@ -21,10 +21,6 @@ inferior r e d = reaches (rows hierarchy r) e d
 unfoldable pub demarcation_has : Record → ℕ → ℕ → Bool
 demarcation_has r d k = any (λ e. inferior r e d && member k (at r.demarcation_privileges e)) (below r.demarcation_count)
 
--- the same on columns: the pairs of the hierarchy, the count of demarcations and what each lists
-unfoldable pub has_below : List (List ℕ) → ℕ → List ℕ → ℕ → ℕ → Bool
-has_below pairs n lists d k = any (λ e. reaches pairs e d && member k (at lists e)) (below n)
-
 -- principals ps have privilege k: the demarcation of some of them has
 unfoldable pub have : Record → List ℕ → ℕ → Bool
 have r ps k = any (λ p. demarcation_has r (at r.principal_demarcations p) k) ps
@@ -49,12 +45,9 @@ consistent r c =
 
 -- ---- role principals: "role principals (formula of op 3)" (2026-06)
 
--- principal p is one, by the columns of the formulas' ops and the principals' formulas: its own formula is of op 3
-abbrev pub is_role_principal_in : List ℕ → List ℕ → ℕ → Bool
-is_role_principal_in ops formulas p = eqb (at ops (at formulas p)) 3
-
+-- principal p is one: its own formula is of op 3
 abbrev pub is_role_principal : Record → ℕ → Bool
-is_role_principal r p = is_role_principal_in r.formula_ops r.principal_formulas p
+is_role_principal r p = eqb (at r.formula_ops (at r.principal_formulas p)) 3
 
 -- how many members of the set c are role principals
 abbrev pub role_count : Record → ℕ → ℕ

@@ -1,3 +1,4 @@
+pub mod Verdicts
 pub mod Justification
 pub mod Order
 pub mod Satisfying

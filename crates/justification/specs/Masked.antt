@@ -46,38 +46,28 @@ pub record Grounds : Type 0 where
   pub forms : List ℕ
   pub guards : List ℕ
 
--- such columns one by one, in the record's order: each table's count, then its columns
-abbrev pub grounds_in : List ℕ → ℕ → List ℕ → ℕ → List ℕ → List ℕ → ℕ → List ℕ → List ℕ → ℕ → List ℕ → List ℕ → ℕ → List ℕ → List ℕ
-    → List ℕ → List ℕ → Grounds
-grounds_in ops demarcations lists ranks inferiors superiors principals formulas held exclusions lows highs links prerequisites dependents forms
-    guards =
-    record {
-      ops = ops;
-      demarcations = demarcations;
-      lists = lists;
-      ranks = ranks;
-      inferiors = inferiors;
-      superiors = superiors;
-      principals = principals;
-      formulas = formulas;
-      held = held;
-      exclusions = exclusions;
-      lows = lows;
-      highs = highs;
-      links = links;
-      prerequisites = prerequisites;
-      dependents = dependents;
-      forms = forms;
-      guards = guards;
-    }
-
 -- those of a record
 abbrev pub grounds_of : Record → Grounds
 grounds_of r =
-    grounds_in r.formula_ops r.demarcation_count r.demarcation_privileges r.hierarchy_count r.inferiors
-    r.superiors r.principal_count r.principal_formulas r.principal_demarcations r.exclusion_count
-    r.exclusion_lows r.exclusion_highs r.prerequisite_count r.prerequisites r.dependents r.method_forms
-    r.method_privileges
+    record {
+      ops = r.formula_ops;
+      demarcations = r.demarcation_count;
+      lists = r.demarcation_privileges;
+      ranks = r.hierarchy_count;
+      inferiors = r.inferiors;
+      superiors = r.superiors;
+      principals = r.principal_count;
+      formulas = r.principal_formulas;
+      held = r.principal_demarcations;
+      exclusions = r.exclusion_count;
+      lows = r.exclusion_lows;
+      highs = r.exclusion_highs;
+      links = r.prerequisite_count;
+      prerequisites = r.prerequisites;
+      dependents = r.dependents;
+      forms = r.method_forms;
+      guards = r.method_privileges;
+    }
 
 -- masks can be made of them for method m: the pairs are of things that there are, and each has a place in its table
 pub record MasksFit (g : Grounds) (m : ℕ) : Type 0 where

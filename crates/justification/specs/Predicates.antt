@@ -8,12 +8,8 @@ use Rattle.policy.specs.declared.Record.{Record}
 use Rattle.policy.specs.Loadable.{loadable}
 use Rattle.formula.specs.Formula.{is_user, holds}
 use Rattle.justification.specs.declared.Question.{Question}
-use Rattle.justification.specs.declared.Verdict.{Verdict}
+use Rattle.justification.specs.Verdicts.{Verdict}
 use Rattle.justification.specs.Justification.{meets}
-
--- one of the first n user lines, by the column of their objects, is that of s
-abbrev pub is_user_in : ℕ → List ℕ → ℕ → Bool
-is_user_in n objects s = any (λ i. eqb (at objects i) s) (below n)
 
 -- 19; 14 no such method; 15 no such object; 16 the requestor isn't a user
 unfoldable pub question_refusal : Record → Question → ℕ
@@ -23,16 +19,6 @@ question_refusal r q =
     ∷ cause no_method (leb r.method_count q.method)
     ∷ cause no_object (leb r.objects q.object)
     ∷ cause not_user (not (is_user r q.requestor))
-    ∷ [])
-
--- the same on what it reads: whether the record loads, its counts of methods, objects and users, and the column of the users' objects
-unfoldable pub refusal_of : Bool → ℕ → ℕ → ℕ → List ℕ → Question → ℕ
-refusal_of loads methods objects users column q =
-    first
-    (cause not_loadable (not loads)
-    ∷ cause no_method (leb methods q.method)
-    ∷ cause no_object (leb objects q.object)
-    ∷ cause not_user (not (is_user_in users column q.requestor))
     ∷ [])
 
 -- principal p is enabled: its formula is true at the object, evaluated afresh

@@ -2,24 +2,23 @@
 
 #![tactic(auto)]
 
-ghost use Rattle.std.specs.Prelude.{◌≡◌, true, false, cond, ◌↔◌, ◌⊎◌, [], ℕ, ◌^◌, ◌≤◌, ◌<◌, get_or};
-ghost use Rattle.std.specs.Int.Bits.{bit_or};
-ghost use Rattle.common.specs.Limits.{most_users, most_formulas, most_demarcations, most_principals, most_exclusions, privilege_count};
+ghost use Rattle.std.specs.Prelude.{◌≡◌, true, cond, ◌↔◌, ℕ, ◌^◌, ◌≤◌, ◌<◌, bit_or};
+ghost use Rattle.common.specs.Limits.{most_formulas, most_demarcations, most_principals, most_exclusions, privilege_count};
 ghost use Rattle.common.specs.Lists.{at};
+ghost use Rattle.common.specs.RefusalNumbers.{outcome_number};
 ghost use Rattle.common.specs.Sets.{In};
 ghost use Rattle.closure.specs.Closure.{pairs_of, reaches};
 ghost use Rattle.tables.specs.Loads.{pairs_load};
-ghost use Rattle.policy.specs.declared.Record as records;
-ghost use Rattle.justification.specs.Justification.{has_below, is_role_principal_in};
-ghost use Rattle.justification.specs.Satisfying.{AmongPairs};
-ghost use Rattle.justification.specs.Masked.{Masked, MasksFit, grounds_in, grounds_of};
-ghost use Rattle.justification.specs.Predicates.{is_user_in, refusal_of};
-ghost use Rattle.justification.specs.MarkedSets.{Marks};
+ghost use Rattle.formula.specs.Formula as formulas;
+ghost use Rattle.justification.specs.Justification.{demarcation_has, is_role_principal};
+ghost use Rattle.justification.specs.Satisfying.{excluded};
+ghost use Rattle.justification.specs.Masked.{Masked, MasksFit, grounds_of};
+ghost use Rattle.justification.specs.Predicates.{question_refusal};
+ghost use Rattle.justification.specs.MarkedSets.{SetOf, Marks};
 
-use common::{
-    MOST_DEMARCATIONS, MOST_EXCLUSIONS, MOST_FORMULAS, MOST_METHODS, MOST_PAIRS, MOST_PRINCIPALS,
-    MOST_USERS,
-};
+use common::{MOST_PAIRS, MOST_PRINCIPALS, Refusal};
+use policy::Record;
+use policy::rules::Rules;
 use search::Masks;
 
 // The op of a formula that asks for a role.
@@ -33,21 +32,7 @@ pub struct Question {
     pub requestor: u8,
 }
 
-// What liberal and strict answer: document 01's number, and yes or no (for a refusal, no).
-#[derive(Clone, Copy)]
-pub struct Verdict {
-    pub number: u8,
-    pub yes: bool,
-}
-
 // ---- sets
-
-// A thing's number as an index of a table.
-fn index(x: u8) -> usize
-    ensures { result ≡ x }
-{
-    x as usize
-}
 
 // The privileges that a method lists: 64 at most.
 pub fn listed(privileges: u64) -> u64
@@ -61,50 +46,33 @@ pub fn marked(s: u32, p: usize, passes: bool) -> u32
     requires { p < most_principals }
     ensures { result ≡ cond passes (bit_or s (2 ^ p)) s }
 {
-    if passes {
-        return search::add(s, p);
+    if passes { search::add(s, p) } else { s }
+}
+
+// The set of those below n that pass.
+pub fn set_of<F: Fn(usize) -> bool>(n: usize, passes: F) -> u32
+    requires few { n ≤ most_principals }
+    requires callable { (p : ℕ) → p < n → F.pre passes p }
+    ensures { SetOf (F.post passes) n result }
+{
+    let mut s = 0;
+    for p in 0..n {
+        if passes(p) {
+            s = search::add(s, p);
+        }
     }
     s
 }
 
 // ---- hierarchy and prerequisites, closed
 
-// The things below n that the relation c leads from to j.
-fn column_set(c: [[bool; MOST_PRINCIPALS]; MOST_PRINCIPALS], n: usize, j: usize) -> u32
-    requires { (n ≤ most_principals) × (j < most_principals) }
-    ensures { Marks n (λ i. get_or (get_or c i []) j false) result }
-{
-    let mut s: u32 = 0;
-    let mut i: usize = 0;
-    while i < n {
-        let more = marked(s, i, c[i][j]);
-        s = more;
-        i += 1;
-    }
-    s
-}
-
-// The same for each j below n.
-fn column_sets(c: [[bool; MOST_PRINCIPALS]; MOST_PRINCIPALS], n: usize) -> [u32; MOST_PRINCIPALS]
-    requires { n ≤ most_principals }
-    ensures { (j : ℕ) → j < n → Marks n (λ i. get_or (get_or c i []) j false) (at result j) }
-{
-    let mut sets = [0u32; MOST_PRINCIPALS];
-    let mut j: usize = 0;
-    while j < n {
-        let s = column_set(c, n, j);
-        sets[j] = s;
-        j += 1;
-    }
-    sets
-}
-
-// For each of so many things those that come to it by steps along the pairs, none or more.
-fn leading_to<'a>(
+// For each of so many things the set of those that come to it by steps along the pairs, none or more. The pairs' columns are lent, since
+// those of the hierarchy and of the prerequisites are of one form.
+fn leading_to(
     things: usize,
     count: usize,
-    firsts: &'a [u8; MOST_PAIRS],
-    seconds: &'a [u8; MOST_PAIRS],
+    firsts: &[u8; MOST_PAIRS],
+    seconds: &[u8; MOST_PAIRS],
 ) -> [u32; MOST_PRINCIPALS]
     requires { (pairs_load things count firsts.now seconds.now ≡ true) × (things ≤ most_principals) }
     ensures { (j : ℕ) → j < things
@@ -112,192 +80,121 @@ fn leading_to<'a>(
 {
     let relation = closure::related(firsts, seconds, count);
     let closed = closure::closed(relation, things);
-    column_sets(closed, things)
+    let mut sets = [0; MOST_PRINCIPALS];
+    for j in 0..things {
+        sets[j] = set_of(things, |i| closed[i][j]);
+    }
+    sets
 }
 
-// The privileges of each principal: those that its demarcation lists, or one below it. The columns are lent.
-pub fn grants_of<'a>(
-    demarcations: usize,
-    lists: &'a [u64; MOST_DEMARCATIONS],
-    pairs: usize,
-    inferiors: &'a [u8; MOST_PAIRS],
-    superiors: &'a [u8; MOST_PAIRS],
-    principals: usize,
-    held: &'a [u8; MOST_PRINCIPALS],
-) -> [u64; MOST_PRINCIPALS]
-    requires { (pairs_load demarcations pairs inferiors.now superiors.now ≡ true) × (demarcations ≤ most_demarcations)
-        × (principals ≤ most_principals) × ((p : ℕ) → p < principals → at held.now p < demarcations) }
-    ensures { (p k : ℕ) → p < principals → (In k (at result p)
-        ↔ (has_below (pairs_of pairs inferiors.now superiors.now) demarcations lists.now
-        (at held.now p) k ≡ true)) }
+// The privileges of each principal: those that its demarcation lists, or one below it.
+pub fn grants_of(rules: &Record) -> [u64; MOST_PRINCIPALS]
+    requires { (pairs_load rules.now.demarcation_count rules.now.hierarchy_count rules.now.inferiors rules.now.superiors ≡ true)
+        × (rules.now.demarcation_count ≤ most_demarcations) × (rules.now.principal_count ≤ most_principals)
+        × ((p : ℕ) → p < rules.now.principal_count → at rules.now.principal_demarcations p < rules.now.demarcation_count) }
+    ensures { (p k : ℕ) → p < rules.now.principal_count
+        → (In k (at result p) ↔ (demarcation_has rules.now (at rules.now.principal_demarcations p) k ≡ true)) }
 {
-    let below = leading_to(demarcations, pairs, inferiors, superiors);
-    let listed = *lists;
-    let mut grants = [0u64; MOST_PRINCIPALS];
-    let mut p: usize = 0;
-    while p < principals {
-        let d = index(held[p]);
-        let g = search::gathered(demarcations, below[d], listed);
-        grants[p] = g;
-        p += 1;
+    let below = leading_to(
+        rules.demarcation_count,
+        rules.hierarchy_count,
+        &rules.inferiors,
+        &rules.superiors,
+    );
+    let mut grants = [0; MOST_PRINCIPALS];
+    for p in 0..rules.principal_count {
+        let d = usize::from(rules.principal_demarcations[p]);
+        grants[p] = search::gathered(
+            rules.demarcation_count,
+            below[d],
+            &rules.demarcation_privileges,
+        );
     }
     grants
 }
 
 // ---- exclusions
 
-// The exclusions m, with the pair of a and b, each for the other.
-fn with_exclusion(m: [u32; MOST_PRINCIPALS], a: usize, b: usize) -> [u32; MOST_PRINCIPALS]
-    requires { (a < most_principals) × (b < most_principals) }
-    ensures { (x y : ℕ) → x < most_principals
-        → (In y (at result x) ↔ (In y (at m x) ⊎ (((a ≡ x) × (b ≡ y)) ⊎ ((b ≡ x) × (a ≡ y))))) }
+// What each principal excludes: of each pair the one excludes the other.
+fn excludes_of(rules: &Record) -> [u32; MOST_PRINCIPALS]
+    requires few { rules.now.exclusion_count ≤ most_exclusions }
+    requires there { (i : ℕ) → i < rules.now.exclusion_count
+        → (at rules.now.exclusion_lows i < most_principals) × (at rules.now.exclusion_highs i < most_principals) }
+    ensures { (p q : ℕ) → p < most_principals → (In q (at result p) ↔ excluded rules.now p q) }
 {
-    let mut sets = m;
-    let first = search::add(sets[a], b);
-    sets[a] = first;
-    let second = search::add(sets[b], a);
-    sets[b] = second;
-    sets
-}
-
-// What each principal excludes, by so many pairs whose columns are lent.
-fn excludes_of<'a>(
-    count: usize,
-    lows: &'a [u8; MOST_EXCLUSIONS],
-    highs: &'a [u8; MOST_EXCLUSIONS],
-) -> [u32; MOST_PRINCIPALS]
-    requires { (count ≤ most_exclusions)
-        × ((i : ℕ) → i < count → (at lows.now i < most_principals) × (at highs.now i < most_principals)) }
-    ensures { (p q : ℕ) → p < most_principals → (In q (at result p) ↔ AmongPairs count lows.now highs.now p q) }
-{
-    let mut sets = [0u32; MOST_PRINCIPALS];
-    let mut i: usize = 0;
-    while i < count {
-        let more = with_exclusion(sets, index(lows[i]), index(highs[i]));
-        sets = more;
-        i += 1;
+    let mut sets = [0; MOST_PRINCIPALS];
+    for i in 0..rules.exclusion_count {
+        let low = usize::from(rules.exclusion_lows[i]);
+        let high = usize::from(rules.exclusion_highs[i]);
+        sets[low] = search::add(sets[low], high);
+        sets[high] = search::add(sets[high], low);
     }
     sets
-}
-
-// ---- role principals
-
-// The role principals, of so many, whose formulas are lent, and the formulas' ops.
-fn role_principals<'a>(
-    ops: &'a [u8; MOST_FORMULAS],
-    count: usize,
-    formulas: &'a [u8; MOST_PRINCIPALS],
-) -> u32
-    requires { (count ≤ most_principals) × ((p : ℕ) → p < count → at formulas.now p < most_formulas) }
-    ensures { Marks count (is_role_principal_in ops.now formulas.now) result }
-{
-    let mut s: u32 = 0;
-    let mut p: usize = 0;
-    while p < count {
-        let f = index(formulas[p]);
-        let more = marked(s, p, ops[f] == ROLE_OP);
-        s = more;
-        p += 1;
-    }
-    s
 }
 
 // ---- the masks of a record
 
-// What the search needs of a record, for a method and the principals that are allowed. The record's columns are lent.
-pub fn masks_of<'a>(
-    ops: &'a [u8; MOST_FORMULAS],
-    demarcations: usize,
-    lists: &'a [u64; MOST_DEMARCATIONS],
-    ranks: usize,
-    inferiors: &'a [u8; MOST_PAIRS],
-    superiors: &'a [u8; MOST_PAIRS],
-    principals: usize,
-    formulas: &'a [u8; MOST_PRINCIPALS],
-    held: &'a [u8; MOST_PRINCIPALS],
-    exclusions: usize,
-    lows: &'a [u8; MOST_EXCLUSIONS],
-    highs: &'a [u8; MOST_EXCLUSIONS],
-    links: usize,
-    prerequisites: &'a [u8; MOST_PAIRS],
-    dependents: &'a [u8; MOST_PAIRS],
-    forms: &'a [u8; MOST_METHODS],
-    guards: &'a [u64; MOST_METHODS],
-    method: usize,
-    allowed: u32,
-) -> Masks
-    requires { MasksFit (grounds_in ops.now demarcations lists.now ranks inferiors.now superiors.now
-        principals formulas.now held.now exclusions lows.now highs.now links prerequisites.now dependents.now forms.now guards.now) method }
-    ensures { (rules : records.Record) → grounds_in ops.now demarcations lists.now
-        ranks inferiors.now superiors.now principals formulas.now held.now
-        exclusions lows.now highs.now links prerequisites.now dependents.now
-        forms.now guards.now ≡ grounds_of rules → Masked rules method allowed result }
+// The role principals.
+#[tactic(auto, using(crate::proofs::Marking::set_marks))]
+fn role_principals(rules: &Record) -> u32
+    requires few { rules.now.principal_count ≤ most_principals }
+    requires there { (p : ℕ) → p < rules.now.principal_count → at rules.now.principal_formulas p < most_formulas }
+    ensures { Marks rules.now.principal_count (is_role_principal rules.now) result }
 {
-    let excludes = excludes_of(exclusions, lows, highs);
-    let needs = leading_to(principals, links, prerequisites, dependents);
-    let grants = grants_of(
-        demarcations,
-        lists,
-        ranks,
-        inferiors,
-        superiors,
-        principals,
-        held,
+    set_of(rules.principal_count, |p| {
+        rules.formula_ops[usize::from(rules.principal_formulas[p])] == ROLE_OP
+    })
+}
+
+// What the search needs of a record, for a method and the principals that are allowed.
+pub fn masks_of(rules: &Record, method: usize, allowed: u32) -> Masks
+    requires { MasksFit (grounds_of rules.now) method }
+    ensures { Masked rules.now method allowed result }
+{
+    let needs = leading_to(
+        rules.principal_count,
+        rules.prerequisite_count,
+        &rules.prerequisites,
+        &rules.dependents,
     );
-    let roles = role_principals(ops, principals, formulas);
-    let wanted = listed(guards[method]);
+    let excludes = excludes_of(rules);
+    let grants = grants_of(rules);
+    let roles = role_principals(rules);
     Masks {
-        count: principals,
-        allowed: allowed,
-        excludes: excludes,
-        needs: needs,
-        grants: grants,
+        count: rules.principal_count,
+        allowed,
+        excludes,
+        needs,
+        grants,
         role_principals: roles,
-        every: forms[method] != 0,
-        wanted: wanted,
+        every: rules.method_forms[method] != 0,
+        wanted: listed(rules.method_privileges[method]),
     }
 }
 
 // ---- questions
 
-// Whether one of so many user lines, whose objects are lent, is that of s.
-fn is_user<'a>(count: usize, objects: &'a [u8; MOST_USERS], s: u8) -> bool
-    requires { count ≤ most_users }
-    ensures { result ≡ is_user_in count objects.now s }
+// Whether one of the user lines is that of s.
+#[tactic(auto, using(crate::proofs::GuardLaws::few_users))]
+fn is_user(rules: &Rules<'_>, s: u8) -> bool
+    ensures { result ≡ formulas.is_user rules.now s }
 {
-    let mut found = false;
-    let mut i: usize = 0;
-    while i < count {
-        found = found | (objects[i] == s);
-        i += 1;
-    }
-    found
+    rules.columns.user_objects[..rules.columns.user_count].contains(&s)
 }
 
-// 19, 14, 15 or 16; 0 where the question may be put. It is known whether some bundle loads to the record; of it the column of the
-// users' objects is lent.
-pub fn question_refusal<'a>(
-    loads: bool,
-    methods: usize,
-    objects: u8,
-    users: usize,
-    user_objects: &'a [u8; MOST_USERS],
-    question: Question,
-) -> u8
-    requires { loads ≡ true → users ≤ most_users }
-    ensures { result ≡ refusal_of loads methods objects users user_objects.now question }
+// 14, 15 or 16, where the question may not be put to the rules.
+#[tactic(auto, unfolding(crate::specs::Predicates::question_refusal))]
+pub fn check_question(rules: &Rules<'_>, question: Question) -> Result<(), Refusal>
+    ensures { outcome_number result ≡ question_refusal rules.now question }
 {
-    if !loads {
-        return common::NOT_LOADABLE;
+    if rules.columns.method_count <= usize::from(question.method) {
+        return Err(Refusal::NoMethod);
     }
-    if methods <= (question.method as usize) {
-        return common::NO_METHOD;
+    if rules.columns.objects <= question.object {
+        return Err(Refusal::NoObject);
     }
-    if objects <= question.object {
-        return common::NO_OBJECT;
+    if !is_user(rules, question.requestor) {
+        return Err(Refusal::NotUser);
     }
-    if !is_user(users, user_objects, question.requestor) {
-        return common::NOT_USER;
-    }
-    common::ACCEPTED
+    Ok(())
 }

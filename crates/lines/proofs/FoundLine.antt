@@ -1,30 +1,32 @@
 -- What `next_of` found at an offset: the text's end or a line of another kind, a refused line, or a line of the kind.
-use Prim.Native.Nat.{ℕ, ◌+◌, ◌*◌, ◌≤◌, ◌<◌}
-use mathlib.Core.Path.{◌≡◌, refl, sym, ◌∙◌, ap, subst}
-use mathlib.Core.Logic.{◌≢◌}
-use mathlib.Core.Bool.{Bool, true, false, false≢true}
-use mathlib.Core.List.{List, [], ◌∷◌}
-use native.Mathlib.Omega.{arith}
-use native.Mathlib.Decide.{dec_lt}
-use lib.ListN.{length, get_or, drop, drop_of_length-le}
-use lib.Dec.{eqb}
-use borrow.Author.Tests.{lt-ltb, le-ltb, eqb-true, eqb-false}
-use Rattle.common.specs.Lists.{at}
-use Rattle.common.specs.ListLaws.{table_same}
+use Rattle.std.specs.Prelude.{ℕ, ◌+◌, ◌*◌, ◌≤◌, ◌<◌, ◌≡◌, refl, ◌≢◌, Bool, true, false, List, [], ◌∷◌, length, drop, replicate, eqb, Option, None, Some, Result, Ok, Err}
+use Rattle.std.proofs.Common.{sym, ◌∙◌, ap, subst, arith, eqb-true}
+use Rattle.std.proofs.lemmas.Bool.{false≢true, eqb-false}
+use Rattle.std.proofs.Math.Decide.{dec_lt}
+use Rattle.std.proofs.Math.ListN.{drop_of_length-le, get_or}
+use lib.Seq.{get_or-drop}
+use borrow.Author.Tests.{lt-ltb, le-ltb}
+use Rattle.common.specs.Lists.{at, table}
+use Rattle.common.specs.ListLaws.{table_same, zeros_at, zero_at}
+use Rattle.common.specs.Limits.{line_room}
 use Rattle.common.specs.Refusals.{wrong_kind}
+use Rattle.common.specs.RefusalLaws.{same_refusal}
+use Rattle.common.specs.declared.Refusal.{Refusal}
 use Rattle.octets.specs.Line.{Framed, refused, octets, kind_octet, total, line_of, frame}
 use Rattle.octets.specs.Number.{number}
-use Rattle.octets.specs.Answers.{HoldsLine}
-use Rattle.octets.proofs.AnswerLaws.{held_octet}
 use Rattle.octets.proofs.LineLaws.{accepted, refused_is}
 use Rattle.octets.proofs.WritingLaws.{Octets, octets_of_pairs}
-use Rattle.lines.specs.declared.Next.{Next}
-use Rattle.lines.specs.declared.Next.TheVariants.{Other, Refused, Body}
-use Rattle.lines.specs.NextLine.{NextValues, no_line, refused_line, body_line, next_values, next_is, next_of, number_at}
-use Rattle.lines.specs.Judging.{most_line_sum}
+use Rattle.lines.specs.declared.TableKind.{TableKind}
+use Rattle.lines.specs.declared.TableKind.TheVariants.{Users, Edges, Formulas, Demarcations, Hierarchy, Principals, Exclusions, Prerequisites, Methods}
+use Rattle.lines.specs.declared.Row.TheVariants.{User, Edge, Formula, Demarcation, Principal, Exclusion, Prerequisite, Method}
+use Rattle.lines.specs.declared.Row.TheVariants as rows
+use Rattle.lines.specs.declared.Line.{Line}
+use Rattle.lines.specs.NextLine.{NextValues, in_room, no_line, refused_line, body_line, next_values, next_is, next_of}
+use Rattle.lines.specs.NextLine.{octets_in, octets_at, number_at}
+use Rattle.lines.specs.Judging.{row_at, most_line_sum}
 
--- a line of the kind and size
-pub record FoundLine (text : List ℕ) (offset kind size next sum : ℕ) : Type 0 where
+-- a line of the kind and size, its octets first in an empty room
+pub record FoundLine (text : List ℕ) (offset kind size next sum : ℕ) (room : List ℕ) : Type 0 where
   pub os : List ℕ
   pub within : offset < length text
   pub framed : frame (drop offset text) ≡ octets os
@@ -32,23 +34,42 @@ pub record FoundLine (text : List ℕ) (offset kind size next sum : ℕ) : Type 
   pub sized : length os ≡ size
   pub follows : next ≡ offset + 2 * length os + 1
   pub summed : sum ≡ total os
+  pub held : room ≡ in_room os
 
--- its octets in a room that they stand first in: one by one, and as numbers
-module _ {text : List ℕ} {offset kind size next sum : ℕ} (f : FoundLine text offset kind size next sum)
-    (before : List ℕ) {after : List ℕ} (h : HoldsLine size (frame (drop offset text)) before after) where
-  pub found_octet : (k : ℕ) → k < size → at after k ≡ at f.os k
-  found_octet = held_octet before h f.framed f.sized
+-- the numbers of a line are those of its octets
+row_same : (kind : TableKind) (l m : List ℕ) → ((k : ℕ) → at l k ≡ at m k) → row_at kind l ≡ row_at kind m
+unfolding number_at
+row_same Users l m h = λ i. User (h 2 i) (h 3 i * 256 + h 4 i)
+row_same Edges l m h = λ i. Edge (h 2 i) (h 3 i) (h 4 i)
+row_same Formulas l m h = λ i. Formula (h 2 i) (h 3 i) (h 4 i)
+row_same Demarcations l m h = λ i. Demarcation (number (table 8 (λ j. h (2 + j) i)))
+row_same Hierarchy l m h = λ i. rows.Hierarchy (h 2 i) (h 3 i)
+row_same Principals l m h = λ i. Principal (h 2 i) (h 3 i)
+row_same Exclusions l m h = λ i. Exclusion (h 2 i) (h 3 i)
+row_same Prerequisites l m h = λ i. Prerequisite (h 2 i) (h 3 i)
+row_same Methods l m h = λ i. Method (h 2 i) (number (table 8 (λ j. h (3 + j) i)))
 
-  pub found_number : (k n : ℕ) → k + n ≤ size → number_at after k n ≡ number_at f.os k n
+-- the octets in the room: one by one, as numbers, and as the line's numbers
+module _ {text : List ℕ} {offset kind size next sum : ℕ} {room : List ℕ} (f : FoundLine text offset kind size next sum room) where
+  pub found_octet : (k : ℕ) → at room k ≡ at f.os k
+  found_octet k =
+      ap (λ (r : List ℕ). at r k) f.held
+      ∙ zeros_at f.os (drop (length f.os) (replicate line_room 0))
+      (λ j. get_or-drop (length f.os) (replicate line_room 0) j 0 ∙ zero_at line_room (length f.os + j)) k
+
+  pub found_number : (k n : ℕ) → number_at room k n ≡ number_at f.os k n
   unfolding number_at
-  found_number k n l = ap number (table_same n _ _ (λ i m. found_octet (k + i) (omega arith)))
+  found_number k n = ap number (table_same n _ _ (λ i m. found_octet (k + i)))
+
+  pub found_row : (kind : TableKind) → row_at kind room ≡ row_at kind (octets_at text offset)
+  found_row kind = row_same kind room f.os found_octet ∙ ap (λ (g : Framed). row_at kind (octets_in g)) (sym f.framed)
 
 total_most : (os : List ℕ) → Octets os → total os ≤ 255 * length os
 total_most [] p = omega arith
 total_most (o ∷ os) p = let h = total_most os p.1 in let k = p.0 in omega arith
 
 -- the octets of an accepted line add to at most so much
-pub sum_most : (t : List ℕ) {os : List ℕ} → frame t ≡ octets os → total os ≤ most_line_sum
+sum_most : (t : List ℕ) {os : List ℕ} → frame t ≡ octets os → total os ≤ most_line_sum
 sum_most t {os} e =
     let a = accepted e in
     let p : Octets os = subst Octets a.read (octets_of_pairs (line_of t) a.are) in
@@ -59,6 +80,11 @@ sum_most t {os} e =
     first_most : (os : List ℕ) → Octets os → get_or os 0 0 + 3 ≡ length os → length os ≤ 258
     first_most [] p e = omega arith
     first_most (o ∷ os) p e = let k = p.0 in omega arith
+
+-- so those of a line that was found
+pub found_sum : {text : List ℕ} {offset kind size next sum : ℕ} {room : List ℕ} → FoundLine text offset kind size next sum room
+    → sum ≤ most_line_sum
+found_sum {text} {offset} f = let m = sum_most (drop offset text) f.framed in let e = f.summed in omega arith
 
 -- and the one that says the kind is an octet
 pub kind_octet_lem : (t : List ℕ) {os : List ℕ} → frame t ≡ octets os → kind_octet os ≤ 0xFF
@@ -71,7 +97,7 @@ kind_octet_lem t {os} e = let a = accepted e in second os (subst Octets a.read (
 
 none_framed : {os : List ℕ} → frame [] ≡ octets os → ⊥
 unfolding frame
-none_framed e = let z : ◌≡◌ {A = ℕ} 0 1 = cc in omega arith
+none_framed e = cc
 
 module _ (text : List ℕ) (offset kind size : ℕ) where
   -- what may stand there
@@ -87,7 +113,7 @@ module _ (text : List ℕ) (offset kind size : ℕ) where
         → next_of text offset kind size ≡ refused_line wrong_kind → Stands
     of_the_kind :
         offset < length text → {os : List ℕ} → frame (drop offset text) ≡ octets os → kind_octet os ≡ kind → length os ≡ size
-        → next_of text offset kind size ≡ body_line (offset + 2 * length os + 1) (total os) → Stands
+        → next_of text offset kind size ≡ body_line (offset + 2 * length os + 1) (total os) (in_room os) → Stands
 
   pub stands : Stands
   unfolding next_of
@@ -129,7 +155,7 @@ module _ (text : List ℕ) (offset kind size : ℕ) where
     where
       go : Stands → kind_octet os ≢ kind
       go (past l f) = absurd (none_framed (sym (ap frame (drop_of_length-le text l)) ∙ e))
-      go (not_framed l g f) = let z : ◌≡◌ {A = ℕ} 0 1 = cc in absurd (omega arith)
+      go (not_framed l g f) = absurd cc
       go (of_another_kind l {os = ps} g h f) = let q : ps ≡ os = cc in subst (λ (u : List ℕ). kind_octet u ≢ kind) q h
       go (of_another_size l g o d f) = absurd (false≢true (ap (λ (v : NextValues). v.read) (sym n ∙ f)))
       go (of_the_kind l g o d f) = absurd (false≢true (ap (λ (v : NextValues). v.read) (sym n ∙ f)))
@@ -159,10 +185,11 @@ module _ (text : List ℕ) (offset kind size : ℕ) where
       go (other_size l f o d w) = omega arith
 
   -- a line of this kind and size
-  pub found_line : {next sum : ℕ} → next_of text offset kind size ≡ body_line next sum → FoundLine text offset kind size next sum
-  found_line {next} {sum} e = go stands
+  pub found_line :
+      {next sum : ℕ} {room : List ℕ} → next_of text offset kind size ≡ body_line next sum room → FoundLine text offset kind size next sum room
+  found_line {next} {sum} {room} e = go stands
     where
-      go : Stands → FoundLine text offset kind size next sum
+      go : Stands → FoundLine text offset kind size next sum room
       go (past l f) = absurd (false≢true (ap (λ (v : NextValues). v.read) (sym f ∙ e)))
       go (not_framed l g f) =
           let z = ap (λ (v : NextValues). v.number) (sym e ∙ f) in let k = refused_is (drop offset text) g in absurd (omega arith)
@@ -177,6 +204,7 @@ module _ (text : List ℕ) (offset kind size : ℕ) where
             sized = d;
             follows = ap (λ (v : NextValues). v.next) (sym e ∙ f);
             summed = ap (λ (v : NextValues). v.total) (sym e ∙ f);
+            held = ap (λ (v : NextValues). v.octets) (sym e ∙ f);
           }
 
   -- a line of another kind
@@ -192,13 +220,15 @@ module _ (text : List ℕ) (offset kind size : ℕ) where
       go (of_the_kind m g o d f) = absurd (false≢true (ap (λ (v : NextValues). v.read) (sym e ∙ f)))
 
   -- the number and values say which answer it is
-  pub same_next : (a b : Next) → next_values a ≡ next_of text offset kind size → next_values b ≡ next_of text offset kind size → a ≡ b
-  same_next Other Other e f = refl
-  same_next Other (Refused k) e f = absurd (false≢true (ap (λ (v : NextValues). v.read) (e ∙ sym f)))
-  same_next Other (Body n m) e f = absurd (false≢true (ap (λ (v : NextValues). v.read) (e ∙ sym f)))
-  same_next (Refused k) Other e f = absurd (false≢true (ap (λ (v : NextValues). v.read) (f ∙ sym e)))
-  same_next (Refused k) (Refused j) e f = ap (λ (v : NextValues). Refused v.number) (e ∙ sym f)
-  same_next (Refused k) (Body n m) e f = absurd (refused_some (sym e) (ap (λ (v : NextValues). v.number) (e ∙ sym f)))
-  same_next (Body n m) Other e f = absurd (false≢true (ap (λ (v : NextValues). v.read) (f ∙ sym e)))
-  same_next (Body n m) (Refused k) e f = absurd (refused_some (sym f) (ap (λ (v : NextValues). v.number) (f ∙ sym e)))
-  same_next (Body n m) (Body x y) e f = ap (λ (v : NextValues). Body v.next v.total) (e ∙ sym f)
+  pub same_next : (a b : Result (Option Line) Refusal) → next_values a ≡ next_of text offset kind size
+      → next_values b ≡ next_of text offset kind size → a ≡ b
+  same_next (Ok None) (Ok None) e f = refl
+  same_next (Ok None) (Err k) e f = absurd (false≢true (ap (λ (v : NextValues). v.read) (e ∙ sym f)))
+  same_next (Ok None) (Ok (Some l)) e f = absurd (false≢true (ap (λ (v : NextValues). v.read) (e ∙ sym f)))
+  same_next (Err k) (Ok None) e f = absurd (false≢true (ap (λ (v : NextValues). v.read) (f ∙ sym e)))
+  same_next (Err k) (Err j) e f = ap Err (same_refusal (ap (λ (v : NextValues). v.number) (e ∙ sym f)))
+  same_next (Err k) (Ok (Some l)) e f = absurd (refused_some (sym e) (ap (λ (v : NextValues). v.number) (e ∙ sym f)))
+  same_next (Ok (Some l)) (Ok None) e f = absurd (false≢true (ap (λ (v : NextValues). v.read) (f ∙ sym e)))
+  same_next (Ok (Some l)) (Err k) e f = absurd (refused_some (sym f) (ap (λ (v : NextValues). v.number) (f ∙ sym e)))
+  same_next (Ok (Some l)) (Ok (Some m)) e f =
+      ap (λ (v : NextValues). Ok (Some (record { octets = v.octets; next = v.next; total = v.total }))) (e ∙ sym f)

@@ -1,5 +1,5 @@
-pub mod NextLaws
 mod Numbers
+pub mod RefusalSome
 pub mod FoundLine
+mod NextLaws
 pub mod JudgedLine
-pub mod EachKind

@@ -1,31 +1,18 @@
 -- What stands at an offset, from what `sized_line` and `other_refusal` answer.
-use Prim.Native.Nat.{ℕ, ◌+◌, ◌-◌, ◌*◌, ◌≤◌, ◌<◌}
-use mathlib.Core.Path.{◌≡◌, refl, sym, ◌∙◌, ap}
-use mathlib.Core.Logic.{◌≢◌}
-use mathlib.Core.Bool.{Bool, true, false, cond}
-use mathlib.Core.List.{List, ◌++◌}
-use mathlib.Core.Option.{none, some}
-use native.Mathlib.Omega.{arith}
-use lib.ListN.{length, drop, replicate, length-drop}
-use lib.Seq.{get_or-drop}
-use lib.Dec.{ltb, eqb}
-use borrow.Author.Tests.{lt-ltb, le-ltb, eq-eqb, ne_eqb, eqb-true}
-use Rattle.common.specs.Lists.{at, table}
-use Rattle.common.specs.ListLaws.{zeros_at, zero_at}
+use Rattle.std.specs.Prelude.{ℕ, ◌+◌, ◌*◌, ◌≤◌, ◌<◌, ◌≡◌, refl, ◌≢◌, Bool, true, false, cond, List, ◌++◌, length, drop, replicate, eqb, None, Some}
+use Rattle.std.proofs.Common.{sym, ◌∙◌, ap, arith, eqb-true, eq-eqb, ne_eqb, length-drop}
+use borrow.Author.Tests.{lt-ltb, le-ltb}
+use Rattle.std.proofs.lemmas.Option.{none-some}
+use Rattle.common.specs.Lists.{at}
+use Rattle.common.specs.Limits.{line_room}
 use Rattle.common.specs.Refusals.{wrong_kind}
 use Rattle.octets.specs.Line.{Framed, refused, octets, kind_octet, total, frame}
 use Rattle.octets.proofs.LineLaws.{accepted, refused_is, next_line_lem, octet_at_lem}
-use Rattle.octets.specs.Answers.{octet_at, total_of_size}
-use Rattle.octets.specs.Number.{number}
-use Rattle.octets.proofs.AnswerLaws.{AnswerOctets}
-use Rattle.lines.specs.NextLine.{NextValues, no_line, refused_line, body_line, next_of, other_is, other_refusal}
-use Rattle.lines.specs.NextLine.{octets_in, octets_at, number_at}
-use Rattle.lines.specs.Judging.{row_at}
+use Rattle.octets.specs.Answers.{octet_at, total_of_size, HoldsLine}
+use Rattle.octets.proofs.AnswerLaws.{AnswerOctets, held_octet}
+use Rattle.lines.specs.NextLine.{NextValues, in_room, no_line, refused_line, body_line, next_of, other_is, other_refusal}
 use Rattle.lines.proofs.FoundLine.{Stands, stands, framed_within}
 use Rattle.lines.proofs.FoundLine.Stands.{past, not_framed, of_another_kind, of_another_size, of_the_kind}
-
-none_some : {t : ℕ} → none ≡ some t → ⊥
-none_some e = let z : ◌≡◌ {A = ℕ} 0 1 = cc in omega arith
 
 -- ---- a line of the size
 
@@ -35,31 +22,19 @@ pub record OfSize (text : List ℕ) (offset size sum : ℕ) : Type 0 where
   pub sized : length os ≡ size
   pub summed : sum ≡ total os
 
-pub of_size : (text : List ℕ) (offset size : ℕ) {sum : ℕ} → some sum ≡ total_of_size size (frame (drop offset text))
+pub of_size : (text : List ℕ) (offset size : ℕ) {sum : ℕ} → Some sum ≡ total_of_size size (frame (drop offset text))
     → OfSize text offset size sum
 of_size text offset size {sum} e = go (frame (drop offset text)) refl e
   where
     pick : (os : List ℕ) → frame (drop offset text) ≡ octets os → (x : Bool) → eqb (length os) size ≡ x
-        → some sum ≡ cond x (some (total os)) none
+        → Some sum ≡ cond x (Some (total os)) None
         → OfSize text offset size sum
     pick os f true q e = record { os = os; framed = f; sized = eqb-true _ _ q; summed = cc }
-    pick os f false q e = absurd (none_some (sym e))
+    pick os f false q e = absurd (none-some _ (sym e))
 
-    go : (f : Framed) → frame (drop offset text) ≡ f → some sum ≡ total_of_size size f → OfSize text offset size sum
-    go (refused k) f e = absurd (none_some (sym e))
+    go : (f : Framed) → frame (drop offset text) ≡ f → Some sum ≡ total_of_size size f → OfSize text offset size sum
+    go (refused k) f e = absurd (none-some _ (sym e))
     go (octets os) f e = pick os f (eqb (length os) size) refl e
-
--- the numbers of a line are those of its octets
-row_same : (size : ℕ) (l m : List ℕ) → ((k : ℕ) → at l k ≡ at m k) → row_at size l ≡ row_at size m
-unfolding number_at
-row_same size l m h =
-    λ i. record {
-      a = h 2 i;
-      b = h 3 i;
-      c = h 4 i;
-      roles = h 3 i * 256 + h 4 i;
-      wide = cond (ltb 10 size) (number (table 8 (λ j. h (size - 9 + j) i))) 0;
-    }
 
 module _ {text : List ℕ} {offset size sum : ℕ} (z : OfSize text offset size sum) where
   -- it has at least three octets
@@ -71,30 +46,31 @@ module _ {text : List ℕ} {offset size sum : ℕ} (z : OfSize text offset size 
   of_size_next =
       let n = (next_line_lem (drop offset text) z.framed).0 in let s = z.sized in omega (arith, length-drop offset text)
 
-  -- its numbers, where the room was empty
-  pub of_size_row : (room : ℕ) {after : List ℕ} → after ≡ z.os ++ drop size (replicate room 0)
-      → row_at size after ≡ row_at size (octets_at text offset)
-  of_size_row room e =
-      ap (row_at size) e
-      ∙ row_same size _ _
-      (zeros_at z.os (drop size (replicate room 0)) (λ j. get_or-drop size (replicate room 0) j 0 ∙ zero_at room (size + j)))
-      ∙ ap (λ (f : Framed). row_at size (octets_in f)) (sym z.framed)
+  -- in a room that was empty
+  module _ (kind : ℕ) {room : List ℕ} (h : HoldsLine size (frame (drop offset text)) (replicate line_room 0) room) where
+    -- the octet that says the kind
+    kind_read : at room 1 ≡ kind_octet z.os
+    kind_read = held_octet _ h z.framed z.sized 1 (omega (arith, of_size_some))
 
-  module _ (kind : ℕ) where
     here : next_of text offset kind size
         ≡ cond (eqb (kind_octet z.os) kind)
-        (cond (eqb (length z.os) size) (body_line (offset + 2 * length z.os + 1) (total z.os)) (refused_line wrong_kind))
+        (cond (eqb (length z.os) size) (body_line (offset + 2 * length z.os + 1) (total z.os) (in_room z.os)) (refused_line wrong_kind))
         no_line
     here = framed_within text offset kind size z.framed
 
     -- of another kind
-    pub next_other : kind_octet z.os ≢ kind → no_line ≡ next_of text offset kind size
-    next_other ne = sym (here ∙ rw (ne_eqb (kind_octet z.os) kind ne))
+    pub next_other : at room 1 ≢ kind → no_line ≡ next_of text offset kind size
+    next_other ne = sym (here ∙ rw (ne_eqb (kind_octet z.os) kind (λ e. ne (kind_read ∙ e))))
 
     -- of the kind
-    pub next_body : kind_octet z.os ≡ kind → body_line (offset + 2 * size + 1) sum ≡ next_of text offset kind size
+    pub next_body : at room 1 ≡ kind → body_line (offset + 2 * size + 1) sum room ≡ next_of text offset kind size
     next_body e =
-        sym (here ∙ rw (eq-eqb _ _ e, eq-eqb _ _ z.sized) (λ i. body_line (offset + 2 * z.sized i + 1) (sym z.summed i)))
+        sym (here
+        ∙ rw (eq-eqb _ _ (sym kind_read ∙ e), eq-eqb _ _ z.sized)
+        (λ i. body_line (offset + 2 * z.sized i + 1) (sym z.summed i) (held i)))
+      where
+        held : in_room z.os ≡ room
+        held = ap (λ (n : ℕ). z.os ++ drop n (replicate line_room 0)) z.sized ∙ sym (h z.os z.framed z.sized)
 
 -- ---- no line of the size
 
@@ -127,7 +103,7 @@ module _ (text : List ℕ) (offset kind : ℕ) where
       pub own_kind : o ≡ kind → wrong_kind ≡ other_refusal text offset kind
       own_kind k = sym (other_is_lem t.framed ∙ rw (eq-eqb (kind_octet t.os) kind (sym says ∙ k)))
 
-  next_left_lem : (size : ℕ) → none ≡ total_of_size size (frame (drop offset text))
+  next_left_lem : (size : ℕ) → None ≡ total_of_size size (frame (drop offset text))
       → next_of text offset kind size ≡ next_left (other_refusal text offset kind)
   next_left_lem size e = go (stands text offset kind size)
     where
@@ -137,9 +113,9 @@ module _ (text : List ℕ) (offset kind : ℕ) where
           f ∙ sym (ap next_left (other_is_lem l g) ∙ rw (ne_eqb k 0 (λ z. let b = refused_is (drop offset text) g in omega arith)))
       go (of_another_kind l {os} g h f) = f ∙ sym (ap next_left (other_is_lem l g) ∙ rw (ne_eqb (kind_octet os) kind h))
       go (of_another_size l {os} g o d f) = f ∙ sym (ap next_left (other_is_lem l g) ∙ rw (eq-eqb (kind_octet os) kind o))
-      go (of_the_kind l {os} g o d f) = absurd (none_some {t = total os} (e ∙ ap (total_of_size size) g ∙ rw (eq-eqb (length os) size d)))
+      go (of_the_kind l {os} g o d f) = absurd (none-some (total os) (e ∙ ap (total_of_size size) g ∙ rw (eq-eqb (length os) size d)))
 
-  module _ (size : ℕ) (e : none ≡ total_of_size size (frame (drop offset text))) {n : ℕ} (q : n ≡ other_refusal text offset kind) where
+  module _ (size : ℕ) (e : None ≡ total_of_size size (frame (drop offset text))) {n : ℕ} (q : n ≡ other_refusal text offset kind) where
     pub left_refused : n ≢ 0 → refused_line n ≡ next_of text offset kind size
     left_refused ne = sym (next_left_lem size e ∙ ap next_left (sym q) ∙ rw (ne_eqb n 0 ne))
 

@@ -1,84 +1,107 @@
 -- A line of any kind that has a table, by the numbers that its body may hold (`Row`): what refuses it, and what comes after it.
-use Rattle.std.specs.Prelude.{ℕ, ◌+◌, ◌-◌, ◌*◌, ◌≤◌, ◌<◌, ◌≡◌, Bool, true, false, not, cond, ◌&&◌, List, [], ◌∷◌, ltb, leb, eqb}
-use Rattle.std.proofs.Math.Option.{Option, none, some}
+use Rattle.std.specs.Prelude.{ℕ, ◌+◌, ◌*◌, ◌≤◌, Bool, true, false, not, cond, ◌&&◌, List, [], ◌∷◌, ltb, leb, eqb, Option, None, Some, Result, Ok, Err}
 use Rattle.common.specs.Lists.{at}
 use Rattle.common.specs.Limits.{most_edges, most_formulas, most_demarcations, most_principals, most_methods, most_lines}
 use Rattle.common.specs.Causes.{first}
-use Rattle.policy.specs.Table.{Kind, code, kind_of}
-use Rattle.policy.specs.Table.{head, user, edge, formula, demarcation, hierarchy, principal, exclusion, prerequisite, method, end}
+use Rattle.common.specs.RefusalNumbers as refusal
+use Rattle.common.specs.declared.Refusal.{Refusal}
+use Rattle.octets.specs.Line.{total}
+use Rattle.policy.specs.Table.{Kind, code, widths}
+use Rattle.policy.specs.Table.{user, edge, formula, demarcation, hierarchy, principal, exclusion, prerequisite, method}
 use Rattle.policy.specs.Rows.{key}
 use Rattle.rows.specs.Op.{op_of, height_of, formula_in_range}
 use Rattle.rows.specs.Checks.{edge_in_range, pair_in_range, edge_key, pair_key, causes}
+use Rattle.lines.specs.declared.TableKind.{TableKind}
+use Rattle.lines.specs.declared.TableKind.TheVariants.{Users, Edges, Formulas, Demarcations, Hierarchy, Principals, Exclusions, Prerequisites, Methods}
 use Rattle.lines.specs.declared.Row.{Row}
+use Rattle.lines.specs.declared.Row.TheVariants.{User, Edge, Formula, Demarcation, Principal, Exclusion, Prerequisite, Method}
+use Rattle.lines.specs.declared.Row.TheVariants as rows
 use Rattle.lines.specs.declared.Bounds.{Bounds}
 use Rattle.lines.specs.declared.Cursor.{Cursor}
-use Rattle.lines.specs.declared.Judged.{Judged}
-use Rattle.lines.specs.declared.Judged.TheVariants.{Other, Refused, Taken}
+use Rattle.lines.specs.declared.Taken.{Taken}
 use Rattle.lines.specs.NextLine.{NextValues, next_of, octets_at, number_at}
 
--- a kind octet between the head's and the end's
-pub record TableKind (kind : ℕ) : Type 0 where
-  pub low : 1 < kind
-  pub high : kind < 0xFF
-  pub known : code (kind_of kind) ≡ kind
+-- the kinds that have a table, among all kinds
+abbrev pub table_of : TableKind → Kind
+table_of Users = user
+table_of Edges = edge
+table_of Formulas = formula
+table_of Demarcations = demarcation
+table_of Hierarchy = hierarchy
+table_of Principals = principal
+table_of Exclusions = exclusion
+table_of Prerequisites = prerequisite
+table_of Methods = method
 
--- ---- the numbers of a line of so many octets
+-- how many octets a line of a kind has: its body's, and the length, kind and check octets
+abbrev pub size_of : Kind → ℕ
+size_of k = total (widths k) + 3
 
--- the body's first three octets, the second and third as one number, and the eight octets before the check octet of a line with so many
-abbrev pub row_at : ℕ → List ℕ → Row
-row_at size os =
-    record {
-      a = at os 2;
-      b = at os 3;
-      c = at os 4;
-      roles = at os 3 * 256 + at os 4;
-      wide = cond (ltb 10 size) (number_at os (size - 9) 8) 0;
-    }
+-- ---- the numbers of a line
 
--- as the numbers of the kind's body
-abbrev pub fields_of : Kind → Row → List ℕ
-fields_of head v = []
-fields_of user v = v.a ∷ v.roles ∷ []
-fields_of edge v = v.a ∷ v.b ∷ v.c ∷ []
-fields_of formula v = v.a ∷ v.b ∷ v.c ∷ []
-fields_of demarcation v = v.wide ∷ []
-fields_of hierarchy v = v.a ∷ v.b ∷ []
-fields_of principal v = v.a ∷ v.b ∷ []
-fields_of exclusion v = v.a ∷ v.b ∷ []
-fields_of prerequisite v = v.a ∷ v.b ∷ []
-fields_of method v = v.a ∷ v.wide ∷ []
-fields_of end v = []
+-- of the octets of a line of a kind
+abbrev pub row_at : TableKind → List ℕ → Row
+row_at Users os = User (at os 2) (at os 3 * 256 + at os 4)
+row_at Edges os = Edge (at os 2) (at os 3) (at os 4)
+row_at Formulas os = Formula (at os 2) (at os 3) (at os 4)
+row_at Demarcations os = Demarcation (number_at os 2 8)
+row_at Hierarchy os = rows.Hierarchy (at os 2) (at os 3)
+row_at Principals os = Principal (at os 2) (at os 3)
+row_at Exclusions os = Exclusion (at os 2) (at os 3)
+row_at Prerequisites os = Prerequisite (at os 2) (at os 3)
+row_at Methods os = Method (at os 2) (number_at os 3 8)
+
+-- the kind of the table that they stand in, and themselves as the numbers of the kind's body
+abbrev pub kind_in : Row → Kind
+kind_in (User o w) = user
+kind_in (Edge l x y) = edge
+kind_in (Formula op a b) = formula
+kind_in (Demarcation w) = demarcation
+kind_in (rows.Hierarchy a b) = hierarchy
+kind_in (Principal f d) = principal
+kind_in (Exclusion p q) = exclusion
+kind_in (Prerequisite p q) = prerequisite
+kind_in (Method f w) = method
+
+abbrev pub fields_of : Row → List ℕ
+fields_of (User o w) = o ∷ w ∷ []
+fields_of (Edge l x y) = l ∷ x ∷ y ∷ []
+fields_of (Formula op a b) = op ∷ a ∷ b ∷ []
+fields_of (Demarcation w) = w ∷ []
+fields_of (rows.Hierarchy a b) = a ∷ b ∷ []
+fields_of (Principal f d) = f ∷ d ∷ []
+fields_of (Exclusion p q) = p ∷ q ∷ []
+fields_of (Prerequisite p q) = p ∷ q ∷ []
+fields_of (Method f w) = f ∷ w ∷ []
 
 -- ---- what refuses them
 
 -- a formula's height, from those of the formulas before it
-abbrev pub height_by : ℕ → Row → (ℕ → ℕ) → ℕ
-height_by kind v heights = cond (eqb kind (code formula)) (height_of (op_of v.a) v.b v.c heights) 0
+abbrev pub height_by : Row → (ℕ → ℕ) → ℕ
+height_by (User o w) heights = 0
+height_by (Edge l x y) heights = 0
+height_by (Formula op a b) heights = height_of (op_of op) a b heights
+height_by (Demarcation w) heights = 0
+height_by (rows.Hierarchy a b) heights = 0
+height_by (Principal f d) heights = 0
+height_by (Exclusion p q) heights = 0
+height_by (Prerequisite p q) heights = 0
+height_by (Method f w) heights = 0
 
 -- 5, 6 and 7: over the kind's limit, out of range, not rising
-abbrev pub refusal_by : Kind → Bounds → ℕ → Row → ℕ
-refusal_by head m h v = 0
-refusal_by user m h v = first (causes false (not (ltb v.a m.objects)) (ltb v.a m.least_key))
-refusal_by edge m h v =
-    first
-    (causes (leb most_edges m.row) (not (edge_in_range m.objects v.a v.b v.c))
-    (ltb (edge_key v.a v.b v.c) m.least_key))
-refusal_by formula m h v = first (causes (leb most_formulas m.row) (not (formula_in_range m.row v.a v.b v.c h)) false)
-refusal_by demarcation m h v = first (causes (leb most_demarcations m.row) false false)
-refusal_by hierarchy m h v =
-    first (causes false (not (pair_in_range m.demarcations v.a v.b)) (ltb (pair_key v.a v.b) m.least_key))
-refusal_by principal m h v =
-    first (causes (leb most_principals m.row) (not (ltb v.a m.formulas && ltb v.b m.demarcations)) false)
-refusal_by exclusion m h v =
-    first (causes false (not (ltb v.a v.b && ltb v.b m.principals)) (ltb (pair_key v.a v.b) m.least_key))
-refusal_by prerequisite m h v =
-    first (causes false (not (pair_in_range m.principals v.a v.b)) (ltb (pair_key v.a v.b) m.least_key))
-refusal_by method m h v = first (causes (leb most_methods m.row) (not (leb v.a 1)) false)
-refusal_by end m h v = 0
-
--- the heights of formulas that a line is judged by are small
-abbrev pub HeightsLow : ℕ → List ℕ → Type 0
-HeightsLow kind heights = kind ≡ code formula → (g : ℕ) → at heights g < 255
+abbrev pub refusal_by : Bounds → ℕ → Row → ℕ
+refusal_by m h (User o w) = first (causes false (not (ltb o m.objects)) (ltb o m.least_key))
+refusal_by m h (Edge l x y) =
+    first (causes (leb most_edges m.row) (not (edge_in_range m.objects l x y)) (ltb (edge_key l x y) m.least_key))
+refusal_by m h (Formula op a b) = first (causes (leb most_formulas m.row) (not (formula_in_range m.row op a b h)) false)
+refusal_by m h (Demarcation w) = first (causes (leb most_demarcations m.row) false false)
+refusal_by m h (rows.Hierarchy a b) = first (causes false (not (pair_in_range m.demarcations a b)) (ltb (pair_key a b) m.least_key))
+refusal_by m h (Principal f d) =
+    first (causes (leb most_principals m.row) (not (ltb f m.formulas && ltb d m.demarcations)) false)
+refusal_by m h (Exclusion p q) =
+    first (causes false (not (ltb p q && ltb q m.principals)) (ltb (pair_key p q) m.least_key))
+refusal_by m h (Prerequisite p q) = first (causes false (not (pair_in_range m.principals p q)) (ltb (pair_key p q) m.least_key))
+refusal_by m h (Method f w) = first (causes (leb most_methods m.row) (not (leb f 1)) false)
 
 -- ---- the line at a cursor
 
@@ -92,14 +115,7 @@ pub record CursorBound (c : Cursor) : Type 0 where
   pub sum : c.sum ≤ most_line_sum * most_lines
 
 abbrev pub moved_past : Cursor → ℕ → ℕ → ℕ → Cursor
-moved_past c kind next sum = record { number = 0; offset = next; lines = c.lines + 1; last = kind; sum = c.sum + sum }
-
--- a line that is taken: its numbers, a formula's height, the least key that may follow it, and the cursor past it
-pub record TakenValues : Type 0 where
-  pub row : Row
-  pub height : ℕ
-  pub least_key_of : ℕ
-  pub cursor : Cursor
+moved_past c kind next sum = record { offset = next; lines = c.lines + 1; last = kind; sum = c.sum + sum }
 
 -- document 01's number and values of what a reader of lines of one kind makes of the line at its cursor
 pub record JudgedValues : Type 0 where
@@ -107,39 +123,35 @@ pub record JudgedValues : Type 0 where
   pub read : Bool
   -- 1 to 7 of a refused line, else 0
   pub number : ℕ
-  pub taken : Option TakenValues
+  pub taken : Option Taken
 
 abbrev pub not_taken : Bool → ℕ → JudgedValues
-not_taken read number = record { read = read; number = number; taken = none }
+not_taken read number = record { read = read; number = number; taken = None }
 
-abbrev pub taken_with : TakenValues → JudgedValues
-taken_with t = record { read = true; number = 0; taken = some t }
+abbrev pub taken_with : Taken → JudgedValues
+taken_with t = record { read = true; number = 0; taken = Some t }
 
 -- of each case of an answer of `judged_line`
-abbrev pub judged_values : Judged → JudgedValues
-judged_values Other = not_taken false 0
-judged_values (Refused k) = not_taken true k
-judged_values (Taken row height least_key_of cursor) = taken_with (record { row = row; height = height; least_key_of = least_key_of; cursor = cursor })
+abbrev pub judged_values : Result (Option Taken) Refusal → JudgedValues
+judged_values (Ok None) = not_taken false 0
+judged_values (Err why) = not_taken true (refusal.number why)
+judged_values (Ok (Some t)) = taken_with t
 
--- of a line of a kind with the numbers v, held to the bounds m and the heights of the formulas before it; the cursor past it
-abbrev pub judged_row : ℕ → Bounds → (ℕ → ℕ) → Cursor → Row → JudgedValues
-judged_row kind m heights further v =
-    cond (eqb (refusal_by (kind_of kind) m (height_by kind v heights) v) 0)
-    (taken_with (record {
-      row = v;
-      height = height_by kind v heights;
-      least_key_of = key (kind_of kind) (fields_of (kind_of kind) v) + 1;
-      cursor = further;
-    }))
-    (not_taken true (refusal_by (kind_of kind) m (height_by kind v heights) v))
+-- of a line with the numbers v, held to the bounds m and the heights of the formulas before it; the cursor past it
+abbrev pub judged_row : Bounds → (ℕ → ℕ) → Cursor → Row → JudgedValues
+judged_row m heights further v =
+    cond (eqb (refusal_by m (height_by v heights) v) 0)
+    (taken_with
+    (record { row = v; height = height_by v heights; least_key = key (kind_in v) (fields_of v) + 1; cursor = further }))
+    (not_taken true (refusal_by m (height_by v heights) v))
 
--- of the line at a cursor, as one of a kind and size
-module _ (text : List ℕ) (c : Cursor) (kind size : ℕ) (m : Bounds) (heights : ℕ → ℕ) where
+-- of the line at a cursor, as one of a kind
+module _ (text : List ℕ) (c : Cursor) (kind : TableKind) (m : Bounds) (heights : ℕ → ℕ) where
   abbrev pub judged_next : NextValues → JudgedValues
   judged_next line =
       cond (line.read && eqb line.number 0)
-      (judged_row kind m heights (moved_past c kind line.next line.total) (row_at size (octets_at text c.offset)))
+      (judged_row m heights (moved_past c (code (table_of kind)) line.next line.total) (row_at kind (octets_at text c.offset)))
       (not_taken line.read line.number)
 
   unfoldable pub judged_of : JudgedValues
-  judged_of = judged_next (next_of text c.offset kind size)
+  judged_of = judged_next (next_of text c.offset (code (table_of kind)) (size_of (table_of kind)))

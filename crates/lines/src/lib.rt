@@ -2,156 +2,225 @@
 
 #![tactic(auto)]
 
-ghost use Rattle.std.specs.Prelude.{◌≡◌, ◌+◌, ◌*◌, ◌≤◌, ◌<◌, drop};
+ghost use Rattle.std.specs.Prelude.{◌≡◌, ◌+◌, ◌≤◌, ◌<◌, replicate, set};
 ghost use Rattle.common.specs.Lists.{at};
-ghost use Rattle.common.specs.Limits.{line_room};
-ghost use Rattle.octets.specs.Line.{frame};
-ghost use Rattle.octets.specs.Answers.{RoomFor, HoldsLine};
-ghost use Rattle.octets.specs.DigitTable.{IsDigitTable};
-ghost use Rattle.policy.specs.Table.{kind_of};
+ghost use Rattle.common.specs.Limits.{line_room, most_formulas, greatest_height};
+ghost use Rattle.common.specs.RefusalNumbers.{outcome_number};
+ghost use Rattle.policy.specs.Table.{code};
 ghost use Rattle.policy.specs.Rows.{key};
 ghost use Rattle.lines.specs.NextLine.{next_values, next_of, other_refusal, number_at};
-ghost use Rattle.lines.specs.Judging.{TableKind, row_at, fields_of, height_by, refusal_by, HeightsLow};
-ghost use Rattle.lines.specs.Judging.{most_line_sum, CursorBound, moved_past, judged_values, judged_row, judged_of};
+ghost use Rattle.lines.specs.Judging.{table_of, size_of, row_at, kind_in, fields_of, height_by, refusal_by};
+ghost use Rattle.lines.specs.Judging.{most_line_sum, CursorBound, moved_past, judged_values, judged_of};
 
-use common::{LINE_ROOM, MOST_FORMULAS};
-use octets::{Line, SizedLine};
+use common::{LINE_ROOM, MOST_FORMULAS, Refusal};
+use std::marker::Model;
 
-// ---- what stands at an offset
+// ---- the kinds of lines
 
-// What stands at an offset, for a reader of lines of one kind.
-#[derive(Clone, Copy)]
-pub enum Next {
-    // The text's end, or a line of another kind.
-    Other,
-    // A line that is refused with 1, 2, 3, or, being of this kind, with 4.
-    Refused(u8),
-    // A line of this kind: where the next one starts, and the plain sum of its octets.
-    Body { next: usize, total: usize },
+// The kinds of lines that have a table in the record, by their kind octets.
+#[derive(Clone, Copy, PartialEq, Eq)]
+pub enum TableKind {
+    Users = 0x02,
+    Edges = 0x03,
+    Formulas = 0x04,
+    Demarcations = 0x05,
+    Hierarchy = 0x06,
+    Principals = 0x07,
+    Exclusions = 0x08,
+    Prerequisites = 0x09,
+    Methods = 0x0A,
 }
 
-// The number that refuses a line which is not of a kind and size (1, 2, 3, or, being of this kind, 4); 0 for the text's end or a line
-// of another kind.
-fn other_refusal(text: &[u8], offset: usize, kind: u8) -> u8
-    ensures { result ≡ other_refusal text.now offset kind }
-{
-    if text.len() <= offset {
-        return 0;
+impl TableKind {
+    // In the order of a bundle's lines.
+    pub const ALL: [TableKind; 9] = [
+        TableKind::Users,
+        TableKind::Edges,
+        TableKind::Formulas,
+        TableKind::Demarcations,
+        TableKind::Hierarchy,
+        TableKind::Principals,
+        TableKind::Exclusions,
+        TableKind::Prerequisites,
+        TableKind::Methods,
+    ];
+
+    // The kind octet.
+    pub fn code(self) -> u8
+        ensures { result ≡ code (table_of self) }
+    {
+        self as u8
     }
-    match octets::read_line(text, offset) {
-        Line::Refused(number) => number,
-        Line::Octets {
-            count: _,
-            next: _,
-            total: _,
-        } => {
-            if octets::octet_at(text, offset, 1) != kind {
-                return 0;
-            }
-            common::WRONG_KIND
+
+    // How many octets a line of the kind has.
+    pub fn size(self) -> usize
+        ensures octets { result ≡ size_of (table_of self) }
+        ensures fits { result ≤ line_room }
+    {
+        match self {
+            TableKind::Users | TableKind::Edges | TableKind::Formulas => 6,
+            TableKind::Demarcations => 11,
+            TableKind::Hierarchy
+            | TableKind::Principals
+            | TableKind::Exclusions
+            | TableKind::Prerequisites => 5,
+            TableKind::Methods => 12,
         }
     }
-}
-
-// Reads the line at an offset as one of a kind, whose lines have so many octets, and puts them into a room for them.
-pub fn next_line(
-    text: &[u8],
-    offset: usize,
-    kind: u8,
-    size: usize,
-    digits: &[u8; 256],
-    octets: &mut [u8; LINE_ROOM],
-) -> Next
-    requires { IsDigitTable digits.now × RoomFor size octets.old }
-    ensures line { next_values result ≡ next_of text.now offset kind size }
-    ensures octets { HoldsLine size (frame (drop offset text.now)) octets.old octets.new }
-{
-    match octets::sized_line(text, offset, size, digits, octets) {
-        SizedLine::Other => {
-            let number = other_refusal(text, offset, kind);
-            if number != 0 {
-                return Next::Refused(number);
-            }
-            Next::Other
-        }
-        SizedLine::Octets { total } => {
-            if octets[1] != kind {
-                return Next::Other;
-            }
-            Next::Body {
-                next: offset + 2 * size + 1,
-                total: total,
-            }
-        }
-    }
-}
-
-// The k-th octet in a room for a line's octets.
-fn octet_in(octets: &[u8; LINE_ROOM], k: usize) -> u8
-    requires { k < line_room }
-    ensures { result ≡ at octets.now k }
-{
-    octets[k]
-}
-
-// The number that n octets of a line make, from the k-th on, the high octet first.
-pub fn number_at(octets: &[u8; LINE_ROOM], k: usize, n: usize) -> u64
-    requires { (n ≤ 8) × (k + n ≤ line_room) }
-    ensures { result ≡ number_at octets.now k n }
-{
-    let mut value: u64 = 0;
-    let mut i = 0;
-    while i < n {
-        let o = octet_in(octets, k + i);
-        value = value * 256 + (o as u64);
-        i += 1;
-    }
-    value
 }
 
 // ---- a line's numbers
 
-// The numbers that a line's body may hold: its first three octets, the second and third as one number (a user's roles),
-// and its number of eight octets. What the kind has no use for is whatever costs least.
+// A line that was found: its octets, where the next line starts, and the plain sum of the octets.
 #[derive(Clone, Copy)]
-pub struct Row {
-    pub a: u8,
-    pub b: u8,
-    pub c: u8,
-    pub roles: u16,
-    pub wide: u64,
+pub struct Line {
+    pub octets: [u8; LINE_ROOM],
+    pub next: usize,
+    pub total: usize,
 }
 
-// A number of two octets.
-fn two_octets(high: u8, low: u8) -> u16
-    ensures { result ≡ high * 256 + low }
-{
-    (high as u16) * 256 + (low as u16)
+// The numbers of a line's body, by its kind.
+#[derive(Clone, Copy)]
+pub enum Row {
+    User { object: u8, roles: u16 },
+    Edge { label: u8, source: u8, target: u8 },
+    Formula { op: u8, left: u8, right: u8 },
+    Demarcation { privileges: u64 },
+    Hierarchy { inferior: u8, superior: u8 },
+    Principal { formula: u8, demarcation: u8 },
+    Exclusion { low: u8, high: u8 },
+    Prerequisite { needed: u8, dependent: u8 },
+    Method { form: u8, privileges: u64 },
 }
 
-// The numbers of a line of so many octets. A line with a number of eight octets has 11 or more, and it stands last before the check octet.
-fn row_at(octets: &[u8; LINE_ROOM], size: usize) -> Row
-    requires { size ≤ line_room }
-    ensures { result ≡ row_at size octets.now }
-{
-    let mut wide: u64 = 0;
-    if 10 < size {
-        wide = number_at(octets, size - 9, 8);
+impl Line {
+    // The number that n octets make, from the k-th on, the high octet first: of 2, 4 or 8, where `from_be_bytes` would take three functions.
+    pub fn number_at(&self, k: usize, n: usize) -> u64
+        requires { (n ≤ 8) × (k + n ≤ line_room) }
+        ensures { result ≡ number_at self.now.octets k n }
+    {
+        let mut value: u64 = 0;
+        for octet in &self.octets[k..k + n] {
+            value = value * 256 + u64::from(*octet);
+        }
+        value
     }
-    let a = octet_in(octets, 2);
-    let b = octet_in(octets, 3);
-    let c = octet_in(octets, 4);
-    let roles = two_octets(b, c);
-    Row {
-        a: a,
-        b: b,
-        c: c,
-        roles: roles,
-        wide: wide,
+
+    // The numbers of a line of a kind.
+    fn row(&self, kind: TableKind) -> Row
+        ensures { result ≡ row_at kind self.now.octets }
+    {
+        let [_, _, a, b, c, ..] = self.octets;
+        match kind {
+            TableKind::Users => Row::User {
+                object: a,
+                roles: u16::from_be_bytes([b, c]),
+            },
+            TableKind::Edges => Row::Edge {
+                label: a,
+                source: b,
+                target: c,
+            },
+            TableKind::Formulas => Row::Formula {
+                op: a,
+                left: b,
+                right: c,
+            },
+            TableKind::Demarcations => Row::Demarcation {
+                privileges: self.number_at(2, 8),
+            },
+            TableKind::Hierarchy => Row::Hierarchy {
+                inferior: a,
+                superior: b,
+            },
+            TableKind::Principals => Row::Principal {
+                formula: a,
+                demarcation: b,
+            },
+            TableKind::Exclusions => Row::Exclusion { low: a, high: b },
+            TableKind::Prerequisites => Row::Prerequisite {
+                needed: a,
+                dependent: b,
+            },
+            TableKind::Methods => Row::Method {
+                form: a,
+                privileges: self.number_at(3, 8),
+            },
+        }
+    }
+}
+
+impl Row {
+    // The least key that may follow.
+    fn key_after(self) -> u32
+        ensures { result ≡ key (kind_in self) (fields_of self) + 1 }
+    {
+        match self {
+            Row::User { object, .. } => rows::after_user(object),
+            Row::Edge {
+                label,
+                source,
+                target,
+            } => rows::after_edge(label, source, target),
+            Row::Hierarchy { inferior, superior } => rows::after_pair(inferior, superior),
+            Row::Exclusion { low, high } => rows::after_pair(low, high),
+            Row::Prerequisite { needed, dependent } => rows::after_pair(needed, dependent),
+            Row::Formula { .. }
+            | Row::Demarcation { .. }
+            | Row::Principal { .. }
+            | Row::Method { .. } => 1,
+        }
     }
 }
 
 // ---- what refuses them
+
+// The heights of the formulas read so far.
+#[derive(Drop)]
+pub struct Heights {
+    of: [u8; MOST_FORMULAS],
+}
+
+impl Model for Heights {
+    ghost use Rattle.std.specs.Prelude.{ℕ, ◌≤◌, List};
+    ghost use Rattle.common.specs.Lists.{at};
+    ghost use Rattle.common.specs.Limits.{greatest_height};
+
+    ghost Value = { List ℕ };
+
+    ghost view = { λ heights. heights.of };
+
+    ghost invariant = { λ heights. (g : ℕ) → at heights.of g ≤ greatest_height };
+}
+
+impl Heights {
+    // Before the first formula.
+    pub fn none() -> Heights
+        ensures { result ≡ replicate most_formulas 0 }
+    {
+        Heights {
+            of: [0; MOST_FORMULAS],
+        }
+    }
+
+    // Keeps the height of a formula.
+    pub fn keep(&mut self, formula: usize, height: u8)
+        requires { (formula < most_formulas) × (height ≤ greatest_height) }
+        ensures { self.new ≡ set self.old formula height }
+    {
+        self.of[formula] = height;
+    }
+
+    // The height of the formula that a line says, from the heights of those before it; 0 for any other line.
+    fn height_of(&self, row: Row) -> u8
+        ensures { result ≡ height_by row (at self.now) }
+    {
+        match row {
+            Row::Formula { op, left, right } => rows::formula_height(op, left, right, &self.of),
+            _ => 0,
+        }
+    }
+}
 
 // What a line is held to: the row of its kind's table that it would fill, the least key that may stand there,
 // and how many objects, formulas, demarcations and principals there are.
@@ -165,153 +234,161 @@ pub struct Bounds {
     pub principals: usize,
 }
 
-// The height of the formula that a line says, from the heights of those before it; 0 for any other kind.
-fn height_of(kind: u8, row: Row, heights: &[u8; MOST_FORMULAS]) -> u8
-    requires { HeightsLow kind heights.now }
-    ensures { result ≡ height_by kind row (at heights.now) }
-{
-    if kind == 0x04 {
-        return rows::formula_height(row.a, row.b, row.c, *heights);
-    }
-    0
-}
-
-// What refuses a line of a kind (5, 6, 7; 0 for nothing).
-fn row_refusal(kind: u8, bounds: Bounds, height: u8, row: Row) -> u8
-    requires { TableKind kind }
-    ensures { result ≡ refusal_by (kind_of kind) bounds height row }
-{
-    let n = bounds.row;
-    let least_key = bounds.least_key;
-    let a = row.a;
-    let b = row.b;
-    match kind {
-        0x02 => rows::user_refusal(bounds.objects, least_key, a),
-        0x03 => rows::edge_refusal(n, bounds.objects, least_key, a, b, row.c),
-        0x04 => rows::formula_refusal(n, a, b, row.c, height),
-        0x05 => rows::demarcation_refusal(n),
-        0x06 => rows::pair_refusal(bounds.demarcations, least_key, a, b),
-        0x07 => rows::principal_refusal(n, bounds.formulas, bounds.demarcations, a, b),
-        0x08 => rows::exclusion_refusal(bounds.principals, least_key, a, b),
-        0x09 => rows::pair_refusal(bounds.principals, least_key, a, b),
-        _ => rows::method_refusal(n, a),
-    }
-}
-
-// The least key that may follow a line of a kind.
-fn after_row(kind: u8, row: Row) -> u32
-    requires { TableKind kind }
-    ensures { result ≡ key (kind_of kind) (fields_of (kind_of kind) row) + 1 }
-{
-    match kind {
-        0x02 => rows::after_user(row.a),
-        0x03 => rows::after_edge(row.a, row.b, row.c),
-        0x06 => rows::after_pair(row.a, row.b),
-        0x08 => rows::after_pair(row.a, row.b),
-        0x09 => rows::after_pair(row.a, row.b),
-        _ => 1,
+impl Bounds {
+    // Whether a line is within them, by its numbers and, of a formula, its height.
+    fn check(self, height: u8, row: Row) -> Result<(), Refusal>
+        ensures { outcome_number result ≡ refusal_by self height row }
+    {
+        let n = self.row;
+        let key = self.least_key;
+        match row {
+            Row::User { object, .. } => rows::check_user(self.objects, key, object),
+            Row::Edge {
+                label,
+                source,
+                target,
+            } => rows::check_edge(n, self.objects, key, label, source, target),
+            Row::Formula { op, left, right } => rows::check_formula(n, op, left, right, height),
+            Row::Demarcation { .. } => rows::check_demarcation(n),
+            Row::Hierarchy { inferior, superior } => {
+                rows::check_pair(self.demarcations, key, inferior, superior)
+            }
+            Row::Principal {
+                formula,
+                demarcation,
+            } => rows::check_principal(n, self.formulas, self.demarcations, formula, demarcation),
+            Row::Exclusion { low, high } => rows::check_exclusion(self.principals, key, low, high),
+            Row::Prerequisite { needed, dependent } => {
+                rows::check_pair(self.principals, key, needed, dependent)
+            }
+            Row::Method { form, .. } => rows::check_method(n, form),
+        }
     }
 }
 
 // ---- the line at a cursor
 
-// How far loading has come: the number that refuses the last line read (0 for none), the offset at which the next one starts,
-// how many lines were read, the last taken one's kind, and the plain sum of their octets.
+// How far loading has come: the offset at which the next line starts, how many lines were taken, the last one's kind, and the plain
+// sum of their octets.
 #[derive(Clone, Copy)]
 pub struct Cursor {
-    pub number: u8,
     pub offset: usize,
     pub lines: usize,
     pub last: u8,
     pub sum: usize,
 }
 
-// The cursor past a line of a kind.
-pub fn past(cursor: Cursor, kind: u8, next: usize, total: usize) -> Cursor
-    requires { CursorBound cursor × (total ≤ most_line_sum) }
-    ensures { result ≡ moved_past cursor kind next total }
-{
-    Cursor {
-        number: 0,
-        offset: next,
-        lines: cursor.lines + 1,
-        last: kind,
-        sum: cursor.sum + total,
+impl Cursor {
+    // Past a line of a kind: a kind octet, since the head is passed too.
+    pub fn past(self, kind: u8, line: Line) -> Cursor
+        requires { CursorBound self × (line.total ≤ most_line_sum) }
+        ensures { result ≡ moved_past self kind line.next line.total }
+    {
+        Cursor {
+            offset: line.next,
+            lines: self.lines + 1,
+            last: kind,
+            sum: self.sum + line.total,
+        }
     }
 }
 
-// What a reader of the lines of one kind makes of the line at its cursor.
+// A line that is taken: its numbers, a formula's height, the least key that may follow, and the cursor past it.
 #[derive(Clone, Copy)]
-pub enum Judged {
-    // The text's end, or a line of another kind.
-    Other,
-    // A line that is refused with this number.
-    Refused(u8),
-    // A line that is taken: its numbers, a formula's height, the least key that may follow, and the cursor past it.
-    Taken {
-        row: Row,
-        height: u8,
-        least_key: u32,
+pub struct Taken {
+    pub row: Row,
+    pub height: u8,
+    pub least_key: u32,
+    pub cursor: Cursor,
+}
+
+// A text, with the table of digits that its lines are read by.
+#[derive(Drop)]
+pub struct Reader<'a> {
+    pub text: &'a [u8],
+    digits: [u8; 256],
+}
+
+impl<'a> Model for Reader<'a> {
+    ghost use Rattle.std.specs.Prelude.{ℕ, List};
+    ghost use Rattle.octets.specs.DigitTable.{IsDigitTable};
+
+    ghost Value = { List ℕ };
+
+    ghost view = { λ reader. reader.text.now };
+
+    ghost invariant = { λ reader. IsDigitTable reader.digits };
+}
+
+impl<'a> Reader<'a> {
+    // Of a text.
+    pub fn of(text: &'a [u8]) -> Reader<'a>
+        ensures { result ≡ text.now }
+    {
+        Reader {
+            text,
+            digits: octets::digit_values(),
+        }
+    }
+
+    // Refuses a line that is not of a kind and its size (1, 2, 3, or, being of this kind, 4), but not the text's end or a line of
+    // another kind. The kind is an octet, since any is looked for: the head's and the end's have no table.
+    fn check_other(&self, offset: usize, kind: u8) -> Result<(), Refusal>
+        ensures { outcome_number result ≡ other_refusal self.now offset kind }
+    {
+        if self.text.len() <= offset {
+            return Ok(());
+        }
+        octets::read_line(self.text, offset)?;
+        if octets::octet_at(self.text, offset, 1) != kind {
+            return Ok(());
+        }
+        Err(Refusal::WrongKind)
+    }
+
+    // The line at an offset, as one of a kind, whose lines have so many octets. None at the text's end, or where it is of another kind.
+    pub fn next_line(&self, offset: usize, kind: u8, size: usize) -> Result<Option<Line>, Refusal>
+        requires { size ≤ line_room }
+        ensures { next_values result ≡ next_of self.now offset kind size }
+    {
+        let mut octets = [0u8; LINE_ROOM];
+        let Some(total) = octets::sized_line(self.text, offset, size, &self.digits, &mut octets)
+        else {
+            self.check_other(offset, kind)?;
+            return Ok(None);
+        };
+        if octets[1] != kind {
+            return Ok(None);
+        }
+        Ok(Some(Line {
+            octets,
+            next: offset + 2 * size + 1,
+            total,
+        }))
+    }
+
+    // Judges the line at the cursor as one of a kind. None where there is no further line of that kind.
+    pub fn judged_line(
+        &self,
         cursor: Cursor,
-    },
-}
-
-// What is made of a line of a kind by its octets: refused by its numbers, or taken, with the cursor past it.
-fn judged_octets(
-    kind: u8,
-    size: usize,
-    bounds: Bounds,
-    heights: &[u8; MOST_FORMULAS],
-    octets: &[u8; LINE_ROOM],
-    further: Cursor,
-) -> Judged
-    requires { TableKind kind × HeightsLow kind heights.now × (size ≤ line_room) }
-    ensures { judged_values result ≡ judged_row kind bounds (at heights.now) further (row_at size octets.now) }
-{
-    let row = row_at(octets, size);
-    let height = height_of(kind, row, heights);
-    let number = row_refusal(kind, bounds, height, row);
-    if number != 0 {
-        return Judged::Refused(number);
-    }
-    let least_key = after_row(kind, row);
-    Judged::Taken {
-        row: row,
-        height: height,
-        least_key: least_key,
-        cursor: further,
-    }
-}
-
-// Judges the line at the cursor as one of a kind, whose lines have so many octets.
-pub fn judged_line(
-    text: &[u8],
-    cursor: Cursor,
-    kind: u8,
-    size: usize,
-    bounds: Bounds,
-    heights: &[u8; MOST_FORMULAS],
-    digits: &[u8; 256],
-) -> Judged
-    requires { TableKind kind × CursorBound cursor × HeightsLow kind heights.now × (size ≤ line_room) × IsDigitTable digits.now }
-    ensures { judged_values result ≡ judged_of text.now cursor kind size bounds (at heights.now) }
-{
-    let offset = cursor.offset;
-    let mut octets = [0u8; LINE_ROOM];
-    match octets::sized_line(text, offset, size, digits, &mut octets) {
-        SizedLine::Other => {
-            let number = other_refusal(text, offset, kind);
-            if number != 0 {
-                return Judged::Refused(number);
-            }
-            Judged::Other
-        }
-        SizedLine::Octets { total } => {
-            if octets[1] != kind {
-                return Judged::Other;
-            }
-            let further = past(cursor, kind, offset + 2 * size + 1, total);
-            judged_octets(kind, size, bounds, heights, &octets, further)
-        }
+        kind: TableKind,
+        bounds: Bounds,
+        heights: &Heights,
+    ) -> Result<Option<Taken>, Refusal>
+        requires { CursorBound cursor }
+        ensures { judged_values result ≡ judged_of self.now cursor kind bounds (at heights.now) }
+    {
+        let Some(line) = self.next_line(cursor.offset, kind.code(), kind.size())? else {
+            return Ok(None);
+        };
+        let row = line.row(kind);
+        let height = heights.height_of(row);
+        bounds.check(height, row)?;
+        Ok(Some(Taken {
+            row,
+            height,
+            least_key: row.key_after(),
+            cursor: cursor.past(kind.code(), line),
+        }))
     }
 }

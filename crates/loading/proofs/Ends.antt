@@ -1,14 +1,8 @@
 -- The last line: what loading makes of an empty text, of an end line, and of what follows it.
-use Prim.Native.Nat.{ℕ, ◌+◌, ◌≤◌, ◌<◌}
-use mathlib.Core.Path.{◌≡◌, refl, sym, ◌∙◌, ap}
-use mathlib.Core.Logic.{◌≢◌}
-use mathlib.Core.Bool.{Bool, true, false, not, cond, ◌&&◌, ◌||◌}
-use mathlib.Core.List.{List, [], ◌∷◌}
-use native.Mathlib.Omega.{arith}
-use native.Mathlib.Decide.{ℕ_discrete}
-use lib.ListN.{length, drop, length-drop, drop_of_length-le}
-use lib.Dec.{eqb}
-use borrow.Author.Tests.{eq-eqb, ne_eqb}
+use Rattle.std.specs.Prelude.{ℕ, ◌+◌, ◌≤◌, ◌<◌, ◌≡◌, refl, ◌≢◌, Bool, true, false, not, cond, ◌&&◌, ◌||◌, List, [], ◌∷◌, length, drop, eqb, Ok}
+use Rattle.std.proofs.Common.{sym, ◌∙◌, ap, arith, eq-eqb, ne_eqb, length-drop}
+use Rattle.std.proofs.Math.Decide.{ℕ_discrete}
+use Rattle.std.proofs.Math.ListN.{drop_of_length-le}
 use Rattle.common.specs.Lists.{at}
 use Rattle.common.specs.BoolLaws.{and_false}
 use Rattle.common.specs.Refusals.{wrong_kind, wrong_end}
@@ -20,7 +14,7 @@ use Rattle.policy.specs.declared.Record.{Record}
 use Rattle.policy.specs.Table.{hierarchy, prerequisite, end, code, rows, appended, indexed, kind_of}
 use Rattle.policy.specs.Rows.{in_range, row_causes}
 use Rattle.lines.specs.NextLine.{no_line, refused_line, next_of, number_at}
-use Rattle.lines.proofs.FoundLine.{FoundLine, kind_octet_lem, refused_line_lem, other_line}
+use Rattle.lines.proofs.FoundLine.{FoundLine, found_number, kind_octet_lem, refused_line_lem, other_line}
 use Rattle.reading.specs.declared.Stage.{Stage}
 use Rattle.reading.specs.Body.{numbers}
 use Rattle.reading.specs.Loading.{Reading, misplaced, end_wrong, line_refusal, after_line, not_loaded, after_last_line, read, load}
@@ -53,20 +47,15 @@ read_ended t (octets os ∷ ls) e =
 abbrev rest : List ℕ → Stage → List ℕ
 rest text s = drop s.cursor.offset text
 
-pub finish_refused : (text : List ℕ) (s : Stage) → s.cursor.number ≢ 0
-    → not_loaded s.cursor.number s.cursor.lines ≡ loaded_from text s
-unfolding loaded_from
-finish_refused text s h = rw (ne_eqb s.cursor.number 0 h)
-
-module _ (text : List ℕ) (s : Stage) (z : s.cursor.number ≡ 0) (r : Ready text end s) where
-  on : loaded_from text s ≡ read (reading s) (lines (rest text s))
-  on = from_on text s z
+module _ (text : List ℕ) (s : Stage) (r : Ready text end s) where
+  on : loaded_from text (Ok s) ≡ read (reading s) (lines (rest text s))
+  on = from_on text s
 
   not_ended : s.cursor.last ≢ 0xFF
   not_ended e = let l = r.last in omega arith
 
   -- there is no end line
-  pub finish_missing : length text ≤ s.cursor.offset → not_loaded wrong_end (s.cursor.lines + 1) ≡ loaded_from text s
+  pub finish_missing : length text ≤ s.cursor.offset → not_loaded wrong_end (s.cursor.lines + 1) ≡ loaded_from text (Ok s)
   unfolding read after_last_line
   finish_missing l =
       sym
@@ -75,7 +64,7 @@ module _ (text : List ℕ) (s : Stage) (z : s.cursor.number ≡ 0) (r : Ready te
 
   -- a line of another kind
   pub finish_other : s.cursor.offset < length text → next_of text s.cursor.offset 0xFF 9 ≡ no_line
-      → not_loaded wrong_kind (s.cursor.lines + 1) ≡ loaded_from text s
+      → not_loaded wrong_kind (s.cursor.lines + 1) ≡ loaded_from text (Ok s)
   finish_other l e =
       let (os, f, h) = other_line text s.cursor.offset 0xFF 9 l e in
       let k = kind_of (kind_octet os) in
@@ -89,11 +78,11 @@ module _ (text : List ℕ) (s : Stage) (z : s.cursor.number ≡ 0) (r : Ready te
       wrong os f h (no q) = misplaced_other (reading s) (kind_of (kind_octet os)) os q
 
   pub finish_unread : (n : ℕ) → next_of text s.cursor.offset 0xFF 9 ≡ refused_line n
-      → not_loaded n (s.cursor.lines + 1) ≡ loaded_from text s
+      → not_loaded n (s.cursor.lines + 1) ≡ loaded_from text (Ok s)
   finish_unread n e =
       sym (on ∙ (refused_reading (reading s) text s.cursor.offset end 9 n refl (refused_line_lem text s.cursor.offset 0xFF 9 e)).1)
 
-  module _ {next sum : ℕ} (f : FoundLine text s.cursor.offset 0xFF 9 next sum) where
+  module _ {next sum : ℕ} {filled : List ℕ} (f : FoundLine text s.cursor.offset 0xFF 9 next sum filled) where
     known : kind_of (kind_octet f.os) ≡ end
     known = ap kind_of f.ours
 
@@ -115,35 +104,36 @@ module _ (text : List ℕ) (s : Stage) (z : s.cursor.number ≡ 0) (r : Ready te
         rw placed
         (λ i. cond (not (eqb (at (numbers_end i) 0) s.cursor.lines && eqb (at (numbers_end i) 1) s.cursor.sum)) wrong_end 0)
 
-    pub finish_count : {n : ℕ} → n ≡ number_at f.os 2 2 → n ≢ s.cursor.lines
-        → not_loaded wrong_end (s.cursor.lines + 1) ≡ loaded_from text s
+    -- its numbers are read from the room for its octets
+    pub finish_count : {n : ℕ} → n ≡ number_at filled 2 2 → n ≢ s.cursor.lines
+        → not_loaded wrong_end (s.cursor.lines + 1) ≡ loaded_from text (Ok s)
     finish_count {n} e h =
         sym (on ∙ read_not (reading s) text s.cursor.offset f.within f.framed end known
-        (end_refusal ∙ rw (ne_eqb (number_at f.os 2 2) s.cursor.lines (λ q. h (e ∙ q)))) (λ q. omega arith))
+        (end_refusal ∙ rw (ne_eqb (number_at f.os 2 2) s.cursor.lines (λ q. h (e ∙ found_number f 2 2 ∙ q)))) (λ q. omega arith))
 
-    pub finish_sum : {n : ℕ} → n ≡ number_at f.os 4 4 → n ≢ s.cursor.sum
-        → not_loaded wrong_end (s.cursor.lines + 1) ≡ loaded_from text s
+    pub finish_sum : {n : ℕ} → n ≡ number_at filled 4 4 → n ≢ s.cursor.sum
+        → not_loaded wrong_end (s.cursor.lines + 1) ≡ loaded_from text (Ok s)
     finish_sum {n} e h =
         sym (on ∙ read_not (reading s) text s.cursor.offset f.within f.framed end known
         (end_refusal
         ∙ rw (
-          ne_eqb (number_at f.os 4 4) s.cursor.sum (λ q. h (e ∙ q)),
+          ne_eqb (number_at f.os 4 4) s.cursor.sum (λ q. h (e ∙ found_number f 4 4 ∙ q)),
           and_false
               (eqb (number_at f.os 2 2) s.cursor.lines),
         )) (λ q. omega arith))
 
-    pub finish_ended : {n m : ℕ} → n ≡ number_at f.os 2 2 → n ≡ s.cursor.lines → m ≡ number_at f.os 4 4
+    pub finish_ended : {n m : ℕ} → n ≡ number_at filled 2 2 → n ≡ s.cursor.lines → m ≡ number_at filled 4 4
         → m ≡ s.cursor.sum
-        → ended_at text next (s.cursor.lines + 1) s.rules ≡ loaded_from text s
+        → ended_at text next (s.cursor.lines + 1) s.rules ≡ loaded_from text (Ok s)
     unfolding ended_at after_line appended
     finish_ended e e' g g' =
         sym (on
         ∙ read_on (reading s) text s.cursor.offset f.within f.framed end known
         (end_refusal
         ∙ rw (
-          eq-eqb (number_at f.os 2 2) s.cursor.lines (sym e ∙ e'),
+          eq-eqb (number_at f.os 2 2) s.cursor.lines (sym (e ∙ found_number f 2 2) ∙ e'),
           eq-eqb (number_at f.os 4 4) s.cursor.sum
-              (sym g ∙ g'),
+              (sym (g ∙ found_number f 4 4) ∙ g'),
         ))
         ∙ read_ended (after_line (reading s) end f.os) _ refl
         ∙ ap (λ (n : ℕ). after_end (s.cursor.lines + 1) s.rules (lines (drop n text))) (sym f.follows))

@@ -1,2 +1,3 @@
+mod KindOrder
 mod Ends
 pub mod HighestFormula

@@ -1,2 +1,3 @@
+mod Places
 mod Memos
 mod Weighing

@@ -41,9 +41,6 @@ module _ (truth : ℕ → Bool) (r : Record) (c : ℕ) where
   pub record Left (start : Memo) (p : ℕ) (m : Memo) : Type 0 where
     pub same : tried truth r start (members r c) ≡ tried truth r m (rest c r.principal_count p)
 
-  pub left_all : (m : Memo) → Left m 0 m
-  left_all m = record { same = refl }
-
   module _ {start m : Memo} {p : ℕ} (l : p < r.principal_count) (h : Left start p m) where
     pub left_skip : (b : Bool) → Decides b (In p c) → b ≡ false → Left start (p + 1) m
     left_skip b d e =
@@ -76,3 +73,5 @@ module _ (truth : ℕ → Bool) (r : Record) (c : ℕ) where
       let past : length (below r.principal_count) ≤ p = omega arith in
       sym
       (h.same ∙ ap (λ (ps : List ℕ). tried truth r m (those (λ k. member k c) ps)) (drop_of_length-le (below r.principal_count) past))
+
+pub ruleset weighing = (left_skip, left_on, left_ends, left_none)

@@ -4,6 +4,8 @@ use Rattle.common.specs.Limits.{most_formulas}
 use Rattle.common.specs.Lists.{those, below}
 use Rattle.policy.specs.declared.Memo.{Memo}
 use Rattle.policy.specs.Table.{emptied}
+use Rattle.formula.specs.Requests.{Asked}
+use Rattle.formula.specs.Formula.{holds}
 use Rattle.justification.specs.declared.Question.{Question}
 
 abbrev pub known : Memo → ℕ → Bool
@@ -14,6 +16,10 @@ value m f = get_or m.value f false
 
 abbrev pub noted : Memo → ℕ → Bool → Memo
 noted m f v = record { object = m.object; requestor = m.requestor; known = set m.known f true; value = set m.value f v }
+
+-- what formula f comes to, evaluated afresh at the object of a request
+abbrev pub truth_for : Asked → ℕ → Bool
+truth_for q f = holds q.rules f q.object q.object q.requestor
 
 -- formula f evaluated, unless known; `truth f` is what evaluation comes to
 unfoldable pub evaluated : (ℕ → Bool) → Memo → ℕ → Memo

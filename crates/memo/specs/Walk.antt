@@ -1,6 +1,6 @@
 -- The steps of the two questions (document 01, "Questions and edits"), for any truth values of formulas: what evaluation enters
 -- into the memo, the eager choice, the lazy walk over all candidates, and the same walk by searches that avoid what is known false.
-use Rattle.std.specs.Prelude.{ℕ, zero, suc, Bool, true, false, not, cond, ◌&&◌, List, [], ◌∷◌}
+use Rattle.std.specs.Prelude.{ℕ, zero, suc, Bool, not, cond, ◌&&◌, List, [], ◌∷◌}
 use Rattle.std.proofs.Math.Option.{Option, none, some}
 use Rattle.common.specs.Lists.{at, any}
 use Rattle.policy.specs.declared.Record.{Record}

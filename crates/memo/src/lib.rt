@@ -2,22 +2,19 @@
 
 #![tactic(auto)]
 
-ghost use Rattle.std.specs.Prelude.{◌≡◌, not, cond, ◌&&◌, ◌≤◌, ◌<◌};
+ghost use Rattle.std.specs.Prelude.{◌≡◌, ◌<◌, ◌≤◌, ◌&&◌, not, count_by};
+ghost use Rattle.std.specs.List.{zip};
 ghost use Rattle.common.specs.Limits.{most_formulas};
-ghost use Rattle.common.specs.Lists.{at, below};
-ghost use Rattle.edge_index.specs.Index.{Indexed};
-ghost use Rattle.policy.specs.declared.Record as records;
-ghost use Rattle.vertices.specs.Steps.{edges_in};
-ghost use Rattle.formula.specs.Evaluation.{formulas_in, context_of};
+ghost use Rattle.common.specs.Lists.{below};
 ghost use Rattle.justification.specs.Justification.{members};
 ghost use Rattle.justification.specs.MarkedSets.{Marks};
-ghost use Rattle.memo.specs.Memo.{known, value, memo_for};
+ghost use Rattle.memo.specs.Memo.{value, memo_for, truth_for};
 ghost use Rattle.memo.specs.Memo as memos;
-ghost use Rattle.memo.specs.Walk.{evaluated_all, tried, weighed_of};
-ghost use Rattle.memo.specs.Lent.{FormulasFit, Principals, truth_in};
+ghost use Rattle.memo.specs.Walk.{evaluated_all, formula_of, known_false, tried, weighed_of};
 ghost use Rattle.memo.specs.WalkLaws.{MemoLengths};
 
-use common::{LABEL_COUNT, MOST_EDGES, MOST_FORMULAS, MOST_PRINCIPALS};
+use common::MOST_FORMULAS;
+use formula::request::Request;
 use justification::Question;
 use policy::Memo;
 
@@ -29,208 +26,111 @@ pub struct Tried {
 }
 
 // The memo for a question: if its pair differs, it is first emptied and takes the new pair.
+#[tactic(auto, unfolding(crate::specs::Memo::memo_for))]
 pub fn memo_for(memo: Memo, question: Question) -> Memo
     ensures { (result ≡ memo_for memo question) × MemoLengths result }
 {
-    if memo.object != question.object {
-        return policy::emptied(question.object, question.requestor);
+    if (memo.object, memo.requestor) == (question.object, question.requestor) {
+        memo
+    } else {
+        policy::emptied(question.object, question.requestor)
     }
-    if memo.requestor != question.requestor {
-        return policy::emptied(question.object, question.requestor);
+}
+
+// How many are true after and were not true before.
+fn gained(before: &[bool; MOST_FORMULAS], after: &[bool; MOST_FORMULAS]) -> usize
+    ensures { (result ≡ count_by (λ pair. pair.0 && not pair.1) (zip after.now before.now)) × (result ≤ most_formulas) }
+{
+    after
+        .iter()
+        .zip(before)
+        .filter(|&(now, then)| *now && !*then)
+        .count()
+}
+
+// How many formulas are known after and were not known before.
+#[tactic(auto, using(crate::proofs::Memos::newly_counted))]
+pub fn newly(before: Memo, after: Memo) -> u8
+    ensures { result ≡ memos.newly before after }
+{
+    gained(&before.known, &after.known) as u8
+}
+
+// Principal p's formula: it is one of the rules' formulas, and has a place in the memo.
+#[tactic(auto, using(crate::proofs::Places::places))]
+fn formula_of(request: &Request<'_>, p: usize) -> usize
+    requires { p < request.now.rules.principal_count }
+    ensures named { (result ≡ formula_of request.now.rules p) × (result < request.now.rules.formula_count) }
+    ensures placed { result < most_formulas }
+{
+    usize::from(request.columns.principal_formulas[p])
+}
+
+// Formula f evaluated at the request's object, unless known.
+#[tactic(auto, unfolding(crate::specs::Memo::evaluated))]
+fn evaluated(request: &Request<'_>, mut memo: Memo, f: usize) -> Memo
+    requires { (f < request.now.rules.formula_count) × (f < most_formulas) }
+    ensures { result ≡ memos.evaluated (truth_for request.now) memo f }
+{
+    if !memo.known[f] {
+        memo.known[f] = true;
+        memo.value[f] = evaluation::holds(request, f);
     }
     memo
 }
 
-// Formula f evaluated at the object, unless known. The columns of edges and formulas are lent, so that none is copied.
-fn evaluated<'a>(
-    memo: Memo,
-    edge_count: usize,
-    labels: &'a [u8; MOST_EDGES],
-    sources: &'a [u8; MOST_EDGES],
-    targets: &'a [u8; MOST_EDGES],
-    firsts: &'a [u16; LABEL_COUNT],
-    counts: &'a [u16; LABEL_COUNT],
-    places: &'a [u16; MOST_EDGES],
-    ops: &'a [u8; MOST_FORMULAS],
-    lefts: &'a [u8; MOST_FORMULAS],
-    rights: &'a [u8; MOST_FORMULAS],
-    roles: u16,
-    object: u8,
-    requestor: u8,
-    f: usize,
-) -> Memo
-    requires { Indexed edge_count labels.now sources.now targets.now firsts.now counts.now places.now
-        × (f < most_formulas) }
-    ensures { result ≡ memos.evaluated (truth_in (context_of roles object requestor
-        (edges_in edge_count labels.now sources.now targets.now))
-        (formulas_in ops.now lefts.now rights.now)) memo f }
+// Each principal in rising number has its formula evaluated, unless known.
+#[tactic(auto, using(crate::specs::StepLaws::evaluated_more), unfolding(crate::specs::Walk::evaluated_all))]
+pub fn evaluated_all(request: &Request<'_>, mut memo: Memo) -> Memo
+    ensures { result ≡ evaluated_all (truth_for request.now) request.now.rules memo (below request.now.rules.principal_count) }
 {
-    if memo.known[f] {
-        return memo;
+    for p in 0..request.columns.principal_count {
+        memo = evaluated(request, memo, formula_of(request, p));
     }
-    let value = evaluation::true_at_object(
-        edge_count, labels, sources, targets, firsts, counts, places, ops, lefts, rights, roles,
-        object, requestor, f,
-    );
-    let mut noted = memo;
-    noted.known[f] = true;
-    noted.value[f] = value;
-    noted
+    memo
 }
 
-// 1 where the test is passed, else 0.
-fn counted(passed: bool) -> u8
-    ensures { (result ≡ cond passed 1 0) × (result ≤ 1) }
+// The principals with the value true in the memo.
+#[tactic(auto, using(crate::proofs::Places::principals_few))]
+pub fn valued(request: &Request<'_>, memo: Memo) -> u32
+    ensures { Marks request.now.rules.principal_count (λ p. value memo (formula_of request.now.rules p)) result }
 {
-    if passed {
-        return 1;
-    }
-    0
+    justification::set_of(
+        request.columns.principal_count,
+        |p| memo.value[formula_of(request, p)],
+    )
 }
 
-// How many formulas are known after and were not known before.
-pub fn newly(before: Memo, after: Memo) -> u8
-    ensures { result ≡ memos.newly before after }
+// The principals that are not known false.
+#[tactic(auto, using(crate::proofs::Places::principals_few))]
+pub fn not_known_false(request: &Request<'_>, memo: Memo) -> u32
+    ensures { Marks request.now.rules.principal_count (λ p. not (known_false request.now.rules memo p)) result }
 {
-    let mut count: u8 = 0;
-    let mut f: usize = 0;
-    while f < MOST_FORMULAS {
-        let more = counted(after.known[f] & !before.known[f]);
-        count += more;
-        f += 1;
-    }
-    count
+    justification::set_of(request.columns.principal_count, |p| {
+        let f = formula_of(request, p);
+        !(memo.known[f] && !memo.value[f])
+    })
 }
 
-// A principal's formula as an index of the memo.
-fn index(x: u8) -> usize
-    ensures { result ≡ x }
+// The members of c in rising number are evaluated, unless known; the first that is not enabled ends it.
+#[tactic(auto, using(crate::proofs::Places::principals_few, crate::proofs::Weighing::weighing))]
+pub fn weigh(request: &Request<'_>, mut memo: Memo, c: u32) -> Tried
+    ensures { weighed_of result ≡ tried (truth_for request.now) request.now.rules memo (members request.now.rules c) }
 {
-    x as usize
-}
-
-// Each of so many principals in rising number has its formula evaluated, unless known. The columns are lent.
-pub fn evaluated_all<'a>(
-    memo: Memo,
-    edge_count: usize,
-    labels: &'a [u8; MOST_EDGES],
-    sources: &'a [u8; MOST_EDGES],
-    targets: &'a [u8; MOST_EDGES],
-    firsts: &'a [u16; LABEL_COUNT],
-    counts: &'a [u16; LABEL_COUNT],
-    places: &'a [u16; MOST_EDGES],
-    ops: &'a [u8; MOST_FORMULAS],
-    lefts: &'a [u8; MOST_FORMULAS],
-    rights: &'a [u8; MOST_FORMULAS],
-    count: usize,
-    formulas: &'a [u8; MOST_PRINCIPALS],
-    roles: u16,
-    object: u8,
-    requestor: u8,
-) -> Memo
-    requires { Indexed edge_count labels.now sources.now targets.now firsts.now counts.now places.now
-        × FormulasFit count formulas.now }
-    ensures { (rules : records.Record) → Principals count formulas.now rules
-        → result ≡ evaluated_all (truth_in (context_of roles object requestor
-        (edges_in edge_count labels.now sources.now targets.now))
-        (formulas_in ops.now lefts.now rights.now)) rules memo (below count) }
-{
-    let mut m = memo;
-    let mut p: usize = 0;
-    while p < count {
-        let f = index(formulas[p]);
-        let more = evaluated(
-            m, edge_count, labels, sources, targets, firsts, counts, places, ops, lefts, rights,
-            roles, object, requestor, f,
-        );
-        m = more;
-        p += 1;
-    }
-    m
-}
-
-// Of so many principals, whose formulas are lent, those with the value true in the memo.
-pub fn valued<'a>(count: usize, formulas: &'a [u8; MOST_PRINCIPALS], memo: Memo) -> u32
-    requires { FormulasFit count formulas.now }
-    ensures { Marks count (λ p. value memo (at formulas.now p)) result }
-{
-    let mut s: u32 = 0;
-    let mut p: usize = 0;
-    while p < count {
-        let f = index(formulas[p]);
-        let more = justification::marked(s, p, memo.value[f]);
-        s = more;
-        p += 1;
-    }
-    s
-}
-
-// Of so many principals, whose formulas are lent, those that are not known false.
-pub fn not_known_false<'a>(count: usize, formulas: &'a [u8; MOST_PRINCIPALS], memo: Memo) -> u32
-    requires { FormulasFit count formulas.now }
-    ensures { Marks count
-        (λ p. not (known memo (at formulas.now p) && not (value memo (at formulas.now p)))) result }
-{
-    let mut s: u32 = 0;
-    let mut p: usize = 0;
-    while p < count {
-        let f = index(formulas[p]);
-        let more = justification::marked(s, p, !(memo.known[f] & !memo.value[f]));
-        s = more;
-        p += 1;
-    }
-    s
-}
-
-// The members of c in rising number are evaluated, unless known; the first that is not enabled ends it. The columns are lent.
-pub fn weigh<'a>(
-    memo: Memo,
-    edge_count: usize,
-    labels: &'a [u8; MOST_EDGES],
-    sources: &'a [u8; MOST_EDGES],
-    targets: &'a [u8; MOST_EDGES],
-    firsts: &'a [u16; LABEL_COUNT],
-    counts: &'a [u16; LABEL_COUNT],
-    places: &'a [u16; MOST_EDGES],
-    ops: &'a [u8; MOST_FORMULAS],
-    lefts: &'a [u8; MOST_FORMULAS],
-    rights: &'a [u8; MOST_FORMULAS],
-    count: usize,
-    formulas: &'a [u8; MOST_PRINCIPALS],
-    roles: u16,
-    object: u8,
-    requestor: u8,
-    c: u32,
-) -> Tried
-    requires { Indexed edge_count labels.now sources.now targets.now firsts.now counts.now places.now
-        × FormulasFit count formulas.now }
-    ensures { (rules : records.Record) → Principals count formulas.now rules
-        → weighed_of result ≡ tried (truth_in (context_of roles object requestor
-        (edges_in edge_count labels.now sources.now targets.now))
-        (formulas_in ops.now lefts.now rights.now)) rules memo (members rules c) }
-{
-    let mut m = memo;
-    let mut p: usize = 0;
-    while p < count {
-        let member = p;
-        p += 1;
-        if search::has(c, member) {
-            let f = index(formulas[member]);
-            let more = evaluated(
-                m, edge_count, labels, sources, targets, firsts, counts, places, ops, lefts,
-                rights, roles, object, requestor, f,
-            );
-            m = more;
-            if !m.value[f] {
+    for p in 0..request.columns.principal_count {
+        if search::has(c, p) {
+            let f = formula_of(request, p);
+            memo = evaluated(request, memo, f);
+            if !memo.value[f] {
                 return Tried {
                     survives: false,
-                    memo: m,
+                    memo,
                 };
             }
         }
     }
     Tried {
         survives: true,
-        memo: m,
+        memo,
     }
 }

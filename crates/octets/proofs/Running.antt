@@ -1,13 +1,12 @@
 -- Reading a line octet by octet: what the line is once the octets `os` have been read and the text `t` is left.
-use Rattle.std.proofs.Common.{◌≡◌, ℕ, suc, ◌+◌, ◌*◌, ◌%◌, ◌^◌, ◌<◌, ◌≤◌, Bool, true, false, cond, ◌&&◌, eqb, ltb, ◌≢◌, ◌⊎◌, List, [], ◌∷◌, ◌++◌, length, drop, sym, refl, ap, ◌∙◌, inl, inr, ⊎_elim, append_assoc, append-nil, add-zero, zero-add, arith, length-append, drop_of_length-le, le-ltb, lt-ltb, ne_eqb, eqb-true}
+use Rattle.std.proofs.Common.{◌≡◌, ℕ, suc, min, Some, None, ltb-true, ltb-false, ◌+◌, ◌*◌, ◌%◌, ◌^◌, ◌<◌, ◌≤◌, Bool, true, false, cond, ◌&&◌, eqb, ltb, ◌≢◌, ◌⊎◌, List, [], ◌∷◌, ◌++◌, length, sym, refl, ap, ◌∙◌, inl, inr, ⊎_elim, append_assoc, append-nil, add-zero, zero-add, arith, length-append, le-ltb, lt-ltb, ne_eqb, eqb-true}
 use Rattle.common.specs.Lists.{at}
-use Rattle.common.specs.ListLaws.{drop_one, drop_two}
 use Rattle.common.specs.BoolLaws.{and_false}
 use Rattle.common.specs.Refusals.{wrong_characters, wrong_length, wrong_sum}
 use Rattle.octets.specs.Line.{digit_value, is_digit, octet, line_of, ended, pairs, octets_of, total}
 use Rattle.octets.specs.Line.{Framed, refused, octets, judged, frame}
 use Rattle.octets.proofs.LineLaws.{not_end}
-use Rattle.octets.specs.Answers.{refused_with, accepted_with, framed_values, values_at_end}
+use Rattle.octets.specs.Answers.{refused_with, accepted_with, framed_values, values_at_end, pair_octet}
 
 -- a line l of which the octets os have been read already; e says whether it has an end
 unfoldable pub from : List ℕ → Bool → List ℕ → Framed
@@ -91,31 +90,20 @@ other₂ os a b t ne h = rw (line_more a (b ∷ t) ne) (from_none os _ _ (go (eq
 
 -- ---- the loop of `read_line`
 
--- at i, n octets have been read, with this first one, this sum modulo 256 and this plain sum modulo 2^64
-pub record Run (s : List ℕ) (offset i n first sum plain : ℕ) : Type 0 where
+-- n octets of a text have been read and the text `left` is left, with this first one, this sum modulo 256 and this plain sum modulo 2^64
+pub record Run (text left : List ℕ) (n first sum plain : ℕ) : Type 0 where
   pub os : List ℕ
-  pub same : frame (drop offset s) ≡ from_text os (drop i s)
+  pub same : frame text ≡ from_text os left
   pub count : n ≡ length os
   pub head : first ≡ at os 0
   pub low : first < 256
   pub adds : sum ≡ total os % 256
   pub whole : plain ≡ total os % 2 ^ 64
   pub most : total os ≤ 255 * length os
-  pub stands : i ≡ offset + 2 * n
 
-pub run_start : (s : List ℕ) (offset : ℕ) → Run s offset offset 0 0 0 0
-run_start s offset =
-    record {
-      os = [];
-      same = start (drop offset s);
-      count = refl;
-      head = refl;
-      low = omega arith;
-      adds = refl;
-      whole = refl;
-      most = omega arith;
-      stands = omega arith;
-    }
+pub run_start : (t : List ℕ) → Run t t 0 0 0 0
+run_start t =
+    record { os = []; same = start t; count = refl; head = refl; low = omega arith; adds = refl; whole = refl; most = omega arith }
 
 pub total_more : (os : List ℕ) (x : ℕ) → total (os ++ x ∷ []) ≡ total os + x
 total_more [] x = omega arith
@@ -125,58 +113,107 @@ head_more : (os : List ℕ) (x : ℕ) → ((length os ≡ 0) × (at (os ++ x ∷
 head_more [] x = inl (refl, refl)
 head_more (o ∷ os) x = inr (omega arith, refl)
 
-module _ {s : List ℕ} {offset i n first sum plain : ℕ} (r : Run s offset i n first sum plain) where
-  -- a pair of digits is read
-  pub run_more : (first' : ℕ) → i + 1 < length s → digit_value (at s i) < 16 → digit_value (at s (i + 1)) < 16
-      → ((n ≡ 0) × (first' ≡ octet (at s i) (at s (i + 1)))) ⊎ ((n ≢ 0) × (first' ≡ first))
-      → Run s offset (i + 2) (n + 1) first' ((sum + octet (at s i) (at s (i + 1))) % 256) ((plain + octet (at s i) (at s (i + 1))) % 2 ^ 64)
-  run_more first' l la lb f =
-      let o = octet (at s i) (at s (i + 1)) in
-      let h = head_more r.os o in
-      record {
-        os = r.os ++ o ∷ [];
-        same = r.same ∙ ap (from_text r.os) (drop_two s i l) ∙ more r.os _ _ (drop (i + 2) s) la lb;
-        count = omega (arith, length-append r.os (o ∷ []));
-        head = ⊎_elim
-            (λ p. ⊎_elim (λ q. p.1 ∙ sym q.1) (λ q. absurd (omega arith)) h)
-            (λ p. ⊎_elim (λ q. absurd (p.0 (r.count ∙ q.0))) (λ q. p.1 ∙ r.head ∙ sym q.1) h)
-            f;
-        low = ⊎_elim (λ p. omega arith) (λ p. omega arith) f;
-        adds = omega (arith, total_more r.os o);
-        whole = omega (arith, total_more r.os o);
-        most = omega (arith, total_more r.os o, length-append r.os (o ∷ []));
-        stands = omega arith;
-      }
+-- two bytes come off the front of what is left, and only one where there are no more
+pub record Taken (left pair later : List ℕ) : Type 0 where
+  pub joined : left ≡ pair ++ later
+  pub long : length pair ≡ min 2 (length left)
+  pub some : 0 < length left
 
+-- as `chunks` takes them
+pub taken : {left pair later : List ℕ} {n : ℕ} → n ≡ 2
+    → (left ≡ pair ++ later) × (length pair ≡ min n (length left)) × (0 < length left) → Taken left pair later
+taken {left = left} e h = record { joined = h.0; long = h.1 ∙ ap (λ (m : ℕ). min m (length left)) e; some = h.2 }
+
+-- a pair of digits
+pub record Digits (pair : List ℕ) (o : ℕ) : Type 0 where
+  pub a : ℕ
+  pub b : ℕ
+  pub is : pair ≡ a ∷ b ∷ []
+  pub high : digit_value a < 16
+  pub low : digit_value b < 16
+  pub octet : o ≡ octet a b
+
+pub digits_some : (pair : List ℕ) {o : ℕ} → pair_octet pair ≡ Some o → Digits pair o
+digits_some [] e = absurd (let z : ◌≡◌ {A = ℕ} 0 1 = cc in omega arith)
+digits_some (a ∷ []) e = absurd (let z : ◌≡◌ {A = ℕ} 0 1 = cc in omega arith)
+digits_some (a ∷ b ∷ c ∷ l) e = absurd (let z : ◌≡◌ {A = ℕ} 0 1 = cc in omega arith)
+digits_some (a ∷ b ∷ []) {o} e = go (is_digit a) (is_digit b) refl refl e
+  where
+    go : (x y : Bool) → is_digit a ≡ x → is_digit b ≡ y → cond (x && y) (Some (octet a b)) None ≡ Some o → Digits (a ∷ b ∷ []) o
+    go true true p q f = record { a = a; b = b; is = refl; high = ltb-true _ _ p; low = ltb-true _ _ q; octet = cc }
+    go true false p q f = absurd (let z : ◌≡◌ {A = ℕ} 0 1 = cc in omega arith)
+    go false y p q f = absurd (let z : ◌≡◌ {A = ℕ} 0 1 = cc in omega arith)
+
+module _ {text left : List ℕ} {n first sum plain : ℕ} (r : Run text left n first sum plain) where
   -- the text is at its end
-  pub run_out : length s ≤ i → frame (drop offset s) ≡ refused 1
-  run_out l = r.same ∙ ap (from_text r.os) (drop_of_length-le s l) ∙ no_text r.os
+  pub run_out : length left ≡ 0 → frame text ≡ refused 1
+  run_out l = r.same ∙ go left l
+    where
+      go : (t : List ℕ) → length t ≡ 0 → from_text r.os t ≡ refused 1
+      go [] l = no_text r.os
+      go (a ∷ t) l = absurd (omega arith)
 
-  module _ (l : i < length s) where
-    -- another character stands first in a pair
-    pub run_other : at s i ≢ 10 → 16 ≤ digit_value (at s i) → frame (drop offset s) ≡ refused 1
-    run_other ne h = r.same ∙ ap (from_text r.os) (drop_one s i l) ∙ other r.os _ (drop (i + 1) s) ne h
+  module _ {pair later : List ℕ} (t : Taken left pair later) where
+    -- a pair of digits is read
+    pub run_more : {o : ℕ} (first' : ℕ) → pair_octet pair ≡ Some o
+        → ((n ≡ 0) × (first' ≡ o)) ⊎ ((n ≢ 0) × (first' ≡ first))
+        → Run text later (n + 1) first' ((sum + o) % 256) ((plain + o) % 2 ^ 64)
+    run_more {o} first' e f =
+        let d = digits_some pair e in
+        let h = head_more r.os o in
+        record {
+          os = r.os ++ o ∷ [];
+          same =
+              r.same ∙ ap (from_text r.os) (t.joined ∙ ap (λ (p : List ℕ). p ++ later) d.is)
+              ∙ more r.os d.a d.b later d.high d.low
+              ∙ ap (λ (x : ℕ). from_text (r.os ++ x ∷ []) later) (sym d.octet);
+          count = omega (arith, r.count, length-append r.os (o ∷ []));
+          head = ⊎_elim
+              (λ p. ⊎_elim (λ q. p.1 ∙ sym q.1) (λ q. absurd (let c = r.count in omega arith)) h)
+              (λ p. ⊎_elim (λ q. absurd (p.0 (r.count ∙ q.0))) (λ q. p.1 ∙ r.head ∙ sym q.1) h)
+              f;
+          low = ⊎_elim (λ p. let l = d.high in let m = d.low in omega (arith, d.octet)) (λ p. let l = r.low in omega arith) f;
+          adds = omega (arith, r.adds, total_more r.os o);
+          whole = omega (arith, r.whole, total_more r.os o);
+          most = let l = d.high in let m = d.low in omega (arith, r.most, d.octet, total_more r.os o, length-append r.os (o ∷ []));
+        }
 
-    -- the text ends within a pair
-    pub run_short : at s i ≢ 10 → length s ≤ i + 1 → frame (drop offset s) ≡ refused 1
-    run_short ne h =
-        r.same ∙ ap (from_text r.os) (drop_one s i l ∙ ap (λ (t : List ℕ). at s i ∷ t) (drop_of_length-le s h)) ∙ short r.os _ ne
+    -- no pair of digits stands there, and it isn't the line's end
+    pub run_other : pair_octet pair ≡ None → at pair 0 ≢ 10 → frame text ≡ refused 1
+    run_other e ne =
+        let j = ap length t.joined in
+        r.same ∙ ap (from_text r.os) t.joined ∙ go pair later e ne (omega (arith, j, t.long)) (omega (arith, j, t.some))
+      where
+        two : (a b : ℕ) (l : List ℕ) → a ≢ 10 → (x y : Bool) → is_digit a ≡ x → is_digit b ≡ y
+            → cond (x && y) (Some (octet a b)) None ≡ None → from_text r.os (a ∷ b ∷ l) ≡ refused 1
+        two a b l ne true true p q e = absurd (let z : ◌≡◌ {A = ℕ} 0 1 = cc in omega arith)
+        two a b l ne true false p q e = other₂ r.os a b l ne (ltb-false _ _ q)
+        two a b l ne false y p q e = other r.os a (b ∷ l) ne (ltb-false _ _ p)
 
-    -- another character, or the line's end, stands second in a pair
-    pub run_other₂ : at s i ≢ 10 → i + 1 < length s → 16 ≤ digit_value (at s (i + 1)) → frame (drop offset s) ≡ refused 1
-    run_other₂ ne k h = r.same ∙ ap (from_text r.os) (drop_two s i k) ∙ other₂ r.os _ _ (drop (i + 2) s) ne h
+        go : (p l : List ℕ) → pair_octet p ≡ None → at p 0 ≢ 10 → length p ≡ min 2 (length (p ++ l)) → 0 < length (p ++ l)
+            → from_text r.os (p ++ l) ≡ refused 1
+        go [] l e ne h some = absurd (omega arith)
+        go (a ∷ []) [] e ne h some = short r.os a ne
+        go (a ∷ []) (b ∷ l) e ne h some = absurd (omega arith)
+        go (a ∷ b ∷ []) l e ne h some = two a b l ne (is_digit a) (is_digit b) refl refl e
+        go (a ∷ b ∷ c ∷ p) l e ne h some = absurd (omega arith)
 
     -- the line's end
-    pub run_end : at s i ≡ 10 → values_at_end n first sum (i + 1) plain ≡ framed_values offset (frame (drop offset s))
+    pub run_end : (offset : ℕ) → at pair 0 ≡ 10
+        → values_at_end n first sum (offset + 2 * n + 1) plain ≡ framed_values offset (frame text)
     unfolding values_at_end
-    run_end e =
-        let f : frame (drop offset s) ≡ cond (ltb 0 (length r.os)) (judged r.os) (refused wrong_characters) =
-        r.same ∙ ap (from_text r.os) (drop_one s i l ∙ ap (λ (b : ℕ). b ∷ drop (i + 1) s) e) ∙ at_end r.os (drop (i + 1) s) in
-        let m : i + 1 ≡ offset + 2 * length r.os + 1 = omega (arith, r.count, r.stands) in
-        (λ j. values_at_end (r.count j) (r.head j) (r.adds j) (m j) plain)
+    run_end offset e =
+        let f : frame text ≡ cond (ltb 0 (length r.os)) (judged r.os) (refused wrong_characters) =
+        r.same ∙ ap (from_text r.os) t.joined ∙ ended_here pair later e (let j = ap length t.joined in omega (arith, t.long, t.some)) in
+        (λ j. values_at_end (r.count j) (r.head j) (r.adds j) (offset + 2 * r.count j + 1) plain)
         ∙ pick r.os plain (eqb (at r.os 0 + 3) (length r.os)) (eqb (total r.os % 256) 0) (λ t. exact (eqb-true _ _ t))
         ∙ ap (framed_values offset) (sym f)
       where
+        ended_here : (p l : List ℕ) → at p 0 ≡ 10 → 0 < length p
+            → from_text r.os (p ++ l) ≡ cond (ltb 0 (length r.os)) (judged r.os) (refused wrong_characters)
+        ended_here [] l e h = absurd (omega arith)
+        ended_here (a ∷ p) l e h = ap (λ (b : ℕ). from_text r.os (b ∷ p ++ l)) e ∙ at_end r.os (p ++ l)
+
         -- a line that is not too long has a sum that fits
         exact : at r.os 0 + 3 ≡ length r.os → plain ≡ total r.os
         exact h = omega (arith, r.head, r.low, r.whole, r.most)

@@ -1,5 +1,5 @@
 -- Writing a line octet by octet: the digits of the octets written so far stand first, and the rest of the buffer is as it was.
-use Rattle.std.proofs.Common.{◌≡◌, ℕ, ◌+◌, ◌*◌, ◌/◌, ◌%◌, ◌<◌, ◌≤◌, Bool, true, false, leb, List, [], ◌∷◌, ◌++◌, length, take, drop, set, sym, refl, ap, ◌∙◌, subst, subst₂, append_assoc, add-one, arith, length-append, length-set, length-take-le, take-suc, le-leb}
+use Rattle.std.proofs.Common.{◌≡◌, ℕ, ◌+◌, ◌*◌, ◌/◌, ◌%◌, ◌<◌, ◌≤◌, Bool, true, false, leb, List, [], ◌∷◌, ◌++◌, length, take, drop, set, sym, refl, ap, ◌∙◌, subst, subst₂, append_assoc, add-one, arith, length-append, length-take-le, take-suc, le-leb}
 use lib.Seq.{set_at, append_snoc, take-length}
 use borrow.Author.Tests.{lt-leb}
 use Rattle.common.specs.Lists.{at}
@@ -56,57 +56,51 @@ octets_end os offset {b} {a} e l w =
 
 -- ---- the loop of `write_line`
 
--- the length and the kind come first
-pub octets_two : (len kind : ℕ) {entry a b : List ℕ} → 3 < length entry → a ≡ placed entry 0 len → b ≡ placed a 2 kind
-    → WrittenOctets (len ∷ kind ∷ []) entry b
-octets_two len kind {entry} {a} {b} l e f =
-    let w : WrittenOctets (len ∷ []) entry a =
-    subst (WrittenOctets (len ∷ []) entry) (sym e) (octets_more [] len 0 refl (omega arith) (octets_none entry)) in
-    subst (WrittenOctets (len ∷ kind ∷ []) entry) (sym f) (octets_more (len ∷ []) kind 2 refl (omega arith) w)
+-- the length, the kind and k octets of the body have been written
+pub record BodyWritten (kind : ℕ) (body entry buffer : List ℕ) (sum k : ℕ) : Type 0 where
+  pub within : k ≤ length body
+  pub adds : sum ≡ total (length body ∷ kind ∷ take k body) % 256
+  pub holds : WrittenOctets (length body ∷ kind ∷ take k body) entry buffer
 
--- k octets of the body have been written after the first two, in a buffer that was buffer₀ before the loop
-pub record BodyWritten (len kind : ℕ) (body buffer₀ : List ℕ) (n sum₀ : ℕ) (buffer : List ℕ) (sum k : ℕ) : Type 0 where
-  pub within : k ≤ n
-  pub same : length buffer ≡ length buffer₀
-  pub adds : sum ≡ (sum₀ + total (take k body)) % 256
-  pub holds : (b : List ℕ) → 2 * n + 7 ≤ length b
-      → WrittenOctets (len ∷ kind ∷ []) b buffer₀ → WrittenOctets (len ∷ kind ∷ take k body) b buffer
-
-pub body_none : (len kind : ℕ) (body buffer : List ℕ) (n sum : ℕ) → sum < 256 → BodyWritten len kind body buffer n sum buffer sum 0
-body_none len kind body buffer n sum l = record { within = omega arith; same = refl; adds = omega arith; holds = λ b h w. w }
-
-module _ {len kind : ℕ} {body buffer₀ : List ℕ} {n sum₀ : ℕ} {buffer : List ℕ} {sum k : ℕ}
-    (w : BodyWritten len kind body buffer₀ n sum₀ buffer sum k) (all : n ≡ length body) where
-  pub body_more : {after : List ℕ} {sum' : ℕ} → k < n → after ≡ placed buffer (2 * k + 4) (at body k) → sum' ≡ (sum + at body k) % 256
-      → BodyWritten len kind body buffer₀ n sum₀ after sum' (k + 1)
-  body_more {after} {sum'} l e f =
-      let short : k < length body = omega arith in
-      let t : take (k + 1) body ≡ take k body ++ (at body k ∷ []) = rw (add-one, take-suc body k 0 short) in
-      let m = length-take-le k body (omega arith) in
+module _ (kind : ℕ) (body entry : List ℕ) (room : 2 * length body + 7 ≤ length entry) where
+  -- the length and the kind come first
+  pub body_none : {a b : List ℕ} {sum : ℕ} → a ≡ placed entry 0 (length body) → b ≡ placed a 2 kind → sum ≡ (length body + kind) % 256
+      → BodyWritten kind body entry b sum 0
+  body_none {a} {b} e f g =
+      let w : WrittenOctets (length body ∷ []) entry a =
+      subst (WrittenOctets (length body ∷ []) entry) (sym e) (octets_more [] (length body) 0 refl (omega arith) (octets_none entry)) in
       record {
         within = omega arith;
-        same = ap length e ∙ simp length-set w.same;
-        adds = omega (arith, w.adds, f, ap total t, total_append (take k body) (at body k ∷ []));
-        holds = λ b h v.
-            subst₂ (λ (x y : List ℕ). WrittenOctets (len ∷ kind ∷ x) b y) (sym t) (sym e)
-            (octets_more (len ∷ kind ∷ take k body) (at body k) (2 * k + 4) (omega arith) (omega arith) (w.holds b h v));
+        adds = omega arith;
+        holds = subst (WrittenOctets (length body ∷ kind ∷ []) entry) (sym f) (octets_more (length body ∷ []) kind 2 refl (omega arith) w);
       }
 
-  -- the check octet and the line's end finish the line
-  pub body_end : (entry : List ℕ) (r : ℕ) → k ≡ n → len ≡ n → 2 * n + 7 ≤ length entry → WrittenOctets (len ∷ kind ∷ []) entry buffer₀
-      → sum₀ ≡ (len + kind) % 256 → (r + sum) % 256 ≡ 0 → r < 256
-      → set (placed buffer (2 * n + 4) r) (2 * n + 6) 0x0A ≡ line_in (framed kind body) entry
-  unfolding framed
-  body_end entry r e f h v s z l =
-      let t : take k body ≡ body = ap (λ (j : ℕ). take j body) (e ∙ all) ∙ take-length body in
-      let g : len ≡ length body = f ∙ all in
-      let os : len ∷ kind ∷ take k body ≡ length body ∷ kind ∷ body = λ i. g i ∷ kind ∷ t i in
-      let u : WrittenOctets (length body ∷ kind ∷ body) entry buffer =
-      subst (λ (x : List ℕ). WrittenOctets x entry buffer) os (w.holds entry h v) in
-      let c : r ≡ check (total (length body ∷ kind ∷ body)) = omega (arith, w.adds, ap total t) in
-      octets_end (framed kind body) (2 * n + 6) (omega (arith, length_framed kind body)) (omega arith)
-      (subst (λ (x : ℕ). WrittenOctets ((length body ∷ kind ∷ body) ++ (x ∷ [])) entry (placed buffer (2 * n + 4) r)) c
-      (octets_more (length body ∷ kind ∷ body) r (2 * n + 4) (omega arith) (omega arith) u))
+  module _ {buffer : List ℕ} {sum k : ℕ} (w : BodyWritten kind body entry buffer sum k) where
+    pub body_more : {after : List ℕ} {sum' : ℕ} → k < length body → after ≡ placed buffer (2 * k + 4) (at body k)
+        → sum' ≡ (sum + at body k) % 256 → BodyWritten kind body entry after sum' (k + 1)
+    body_more {after} {sum'} l e f =
+        let t : take (k + 1) body ≡ take k body ++ (at body k ∷ []) = rw (add-one, take-suc body k 0 l) in
+        let m = length-take-le k body (omega arith) in
+        record {
+          within = omega arith;
+          adds = omega (arith, w.adds, f, ap total t, total_append (take k body) (at body k ∷ []));
+          holds =
+              subst₂ (λ (x y : List ℕ). WrittenOctets (length body ∷ kind ∷ x) entry y) (sym t) (sym e)
+              (octets_more (length body ∷ kind ∷ take k body) (at body k) (2 * k + 4) (omega arith) (omega arith) w.holds);
+        }
+
+    -- the check octet and the line's end finish the line
+    pub body_end : (r : ℕ) → length body ≤ k → (r + sum) % 256 ≡ 0 → r < 256
+        → set (placed buffer (2 * length body + 4) r) (2 * length body + 6) 0x0A ≡ line_in (framed kind body) entry
+    unfolding framed
+    body_end r h z l =
+        let t : take k body ≡ body = ap (λ (j : ℕ). take j body) (let e : k ≡ length body = omega (arith, w.within) in e) ∙ take-length body in
+        let u : WrittenOctets (length body ∷ kind ∷ body) entry buffer =
+        subst (λ (x : List ℕ). WrittenOctets (length body ∷ kind ∷ x) entry buffer) t w.holds in
+        let c : r ≡ check (total (length body ∷ kind ∷ body)) = omega (arith, w.adds, ap total t) in
+        octets_end (framed kind body) (2 * length body + 6) (omega (arith, length_framed kind body)) (omega arith)
+        (subst (λ (x : ℕ). WrittenOctets ((length body ∷ kind ∷ body) ++ (x ∷ [])) entry (placed buffer (2 * length body + 4) r)) c
+        (octets_more (length body ∷ kind ∷ body) r (2 * length body + 4) (omega arith) (omega arith) u))
 
 -- ---- what is answered
 

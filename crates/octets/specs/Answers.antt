@@ -1,15 +1,12 @@
 -- What the functions of this crate answer, by the definitions of `Line`.
-use Rattle.std.specs.Prelude.{◌≡◌, ℕ, ◌+◌, ◌*◌, ◌/◌, ◌%◌, ◌≤◌, Bool, cond, ◌&&◌, List, ◌++◌, length, drop, ◌==◌, nat_le, slice_set}
-use Rattle.std.proofs.Math.Option.{Option, none, some}
+use Rattle.std.specs.Prelude.{◌≡◌, ℕ, ◌+◌, ◌*◌, ◌/◌, ◌%◌, ◌≤◌, Bool, cond, ◌&&◌, List, [], ◌∷◌, ◌++◌, length, drop, ◌==◌, nat_le, slice_set, Option, Some, None, Result, Ok, Err}
 use Rattle.common.specs.Lists.{at}
 use Rattle.common.specs.Limits.{line_room}
 use Rattle.common.specs.Refusals.{wrong_characters, wrong_length, wrong_sum}
 use Rattle.octets.specs.Line.{Framed, refused, octets, total, is_digit, octet, digit, framed, line_bytes}
-use Rattle.octets.specs.declared.Line.{Line}
-use Rattle.octets.specs.declared.Line.TheVariants.{Refused, Octets}
-use Rattle.octets.specs.declared.SizedLine.{SizedLine}
-use Rattle.octets.specs.declared.SizedLine.TheVariants.{Other}
-use Rattle.octets.specs.declared.SizedLine.TheVariants as sized
+use Rattle.common.specs.RefusalNumbers.{number}
+use Rattle.common.specs.declared.Refusal.{Refusal}
+use Rattle.octets.specs.declared.FramedLine.{FramedLine}
 
 -- "a definition gives this paper's number and values for each of the enum's cases": of an answer of `read_line`
 pub record LineValues : Type 0 where
@@ -27,9 +24,9 @@ abbrev pub accepted_with : ℕ → ℕ → ℕ → LineValues
 accepted_with count next total = record { number = 0; count = count; next = next; total = total }
 
 -- of each case
-abbrev pub line_values : Line → LineValues
-line_values (Refused k) = refused_with k
-line_values (Octets count next total) = accepted_with count next total
+abbrev pub line_values : Result FramedLine Refusal → LineValues
+line_values (Ok line) = accepted_with line.count line.next line.total
+line_values (Err refusal) = refused_with (number refusal)
 
 -- of the line at an offset, as it is framed
 abbrev pub framed_values : ℕ → Framed → LineValues
@@ -43,19 +40,14 @@ values_at_end count first sum next plain =
     (refused_with wrong_characters)
     (cond (first + 3 == count) (cond (sum == 0) (accepted_with count next plain) (refused_with wrong_sum)) (refused_with wrong_length))
 
--- of an answer of `sized_line`: the plain sum of the octets, where a line of the size was read
-abbrev pub sized_total : SizedLine → Option ℕ
-sized_total Other = none
-sized_total (sized.Octets total) = some total
-
--- of a framed line
+-- the plain sum of the octets of a framed line, where it has the size that its reader asks for
 abbrev pub total_of_size : ℕ → Framed → Option ℕ
-total_of_size size (refused k) = none
-total_of_size size (octets os) = cond (length os == size) (some (total os)) none
+total_of_size size (refused k) = None
+total_of_size size (octets os) = cond (length os == size) (Some (total os)) None
 
 -- the same at the end of a line of the size, from the first octet, the sum of all modulo 256, and the plain sum
 abbrev pub sized_at_end : ℕ → ℕ → ℕ → ℕ → Option ℕ
-sized_at_end size first sum plain = cond (first + 3 == size) (cond (sum == 0) (some plain) none) none
+sized_at_end size first sum plain = cond (first + 3 == size) (cond (sum == 0) (Some plain) None) None
 
 -- a room for the octets of a line, which the size does not pass
 pub record RoomFor (size : ℕ) (room : List ℕ) : Type 0 where
@@ -65,6 +57,13 @@ pub record RoomFor (size : ℕ) (room : List ℕ) : Type 0 where
 -- where a framed line is of the size, its octets stand first in a room, and the rest is as before
 abbrev pub HoldsLine : ℕ → Framed → List ℕ → List ℕ → Type 0
 HoldsLine size f before after = (os : List ℕ) → f ≡ octets os → length os ≡ size → after ≡ os ++ drop size before
+
+-- the octet of a pair of digits; none of another list of bytes
+abbrev pub pair_octet : List ℕ → Option ℕ
+pair_octet (a ∷ b ∷ []) = cond (is_digit a && is_digit b) (Some (octet a b)) None
+pair_octet [] = None
+pair_octet (a ∷ []) = None
+pair_octet (a ∷ b ∷ c ∷ l) = None
 
 -- the octet of two bytes; 0 where one of them is no digit
 unfoldable pub octet_of : ℕ → ℕ → ℕ

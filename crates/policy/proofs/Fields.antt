@@ -13,9 +13,8 @@ use denote.Struct.Declared.{shape}
 use denote.Struct.Field.{uint_field, array_field}
 use borrow.Author.Rules.{elem_Fits}
 use Rattle.common.specs.Limits.{most_users, most_edges, most_formulas, most_demarcations, most_pairs, most_principals, most_exclusions}
-use Rattle.common.specs.Limits.{most_methods, label_count}
+use Rattle.common.specs.Limits.{most_methods}
 use Rattle.common.specs.Lists.{at}
-use Rattle.edge_index.specs.Index.{IndexLengths}
 use Rattle.policy.specs.declared.Record.{Record}
 use Rattle.policy.specs.contracts.Record.{the_type}
 use Rattle.policy.specs.Table.{Kind, head, user, edge, formula, demarcation, hierarchy, principal, exclusion, prerequisite, method, end}
@@ -110,15 +109,4 @@ owned_columns r vs f =
       dependents = column w8 _ _ _ tt f.1.1.1.1.1.1.1.1.1.1.1.1.1.1.1.1.1.1.1.1.1.1.1.1.1.0;
       forms = column w8 _ _ _ tt f.1.1.1.1.1.1.1.1.1.1.1.1.1.1.1.1.1.1.1.1.1.1.1.1.1.1.1.0;
       methods = column w64 _ _ _ tt f.1.1.1.1.1.1.1.1.1.1.1.1.1.1.1.1.1.1.1.1.1.1.1.1.1.1.1.1.0;
-    }
-
--- the columns of its index, the field after them
-pub owned_index : (r : Record) (vs : Valss (shape the_type).fields) → Owned r vs
-    → IndexLengths r.index.firsts r.index.counts r.index.places
-owned_index r vs f =
-    let g = f.1.1.1.1.1.1.1.1.1.1.1.1.1.1.1.1.1.1.1.1.1.1.1.1.1.1.1.1.1.0.1.1 in
-    record {
-      firsts_long = (column w16 label_count r.index.firsts _ tt g.0).long;
-      counts_long = (column w16 label_count r.index.counts _ tt g.1.0).long;
-      places_long = (column w16 most_edges r.index.places _ tt g.1.1.0).long;
     }

@@ -7,7 +7,7 @@ use Rattle.common.specs.Lists.{same}
 use Rattle.common.specs.ListLaws.{length_table}
 use Rattle.policy.specs.declared.Record.{Record}
 use Rattle.policy.specs.declared.Memo.{Memo}
-use Rattle.policy.specs.declared.Edited.{Edited}
+use Rattle.policy.specs.EditAnswers.{Edited}
 use Rattle.policy.specs.Table.{edge, row, rows, emptied, changed, with_memo}
 use Rattle.rows.specs.Checks.{edge_in_range}
 use Rattle.policy.specs.Loadable.{loadable}

@@ -6,7 +6,7 @@ use Rattle.common.specs.Causes.{cause, first}
 use Rattle.common.specs.Refusals.{edge_out_of_range, edge_present, edge_absent, edges_full, not_loadable}
 use Rattle.policy.specs.declared.Record.{Record}
 use Rattle.policy.specs.declared.Memo.{Memo}
-use Rattle.policy.specs.declared.Edited.{Edited}
+use Rattle.policy.specs.EditAnswers.{Edited}
 use Rattle.policy.specs.Table.{edge, rows, emptied, changed}
 use Rattle.rows.specs.Checks.{edge_in_range}
 use Rattle.policy.specs.Rows.{key}

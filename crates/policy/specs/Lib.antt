@@ -1,3 +1,4 @@
+pub mod EditAnswers
 pub mod Table
 pub mod LinesBefore
 pub mod Height
@@ -15,6 +16,7 @@ pub mod HeightLaws
 pub mod GrowthLaws
 pub mod EdgeLaws
 pub mod EdgeRows
+pub mod Places
 pub mod ChangedLaws
 pub mod ColumnLaws
 pub mod RecordIndexLaws

@@ -75,15 +75,19 @@ module _ (r : Record) where
 
 -- ---- the parts of `loadable`
 
--- kinds 02 to 04; kinds 05 to 0A, with the circles of the two relations
+-- kinds 02 to 04; kinds 05, 07, 08 and 0A; kinds 06 and 09, with the circles of the two relations
 abbrev pub graph_loads : Record → Bool
 graph_loads r = table_loads r user && (table_loads r edge && table_loads r formula)
 
+abbrev pub lists_load : Record → Bool
+lists_load r = table_loads r demarcation && (table_loads r principal && (table_loads r exclusion && table_loads r method))
+
+abbrev pub relations_load : Record → Bool
+relations_load r =
+    (table_loads r hierarchy && not (circular (rows hierarchy r))) && (table_loads r prerequisite && not (circular (rows prerequisite r)))
+
 abbrev pub grounds_load : Record → Bool
-grounds_load r =
-    (table_loads r demarcation && (table_loads r principal && (table_loads r exclusion && table_loads r method)))
-    && ((table_loads r hierarchy && not (circular (rows hierarchy r)))
-    && (table_loads r prerequisite && not (circular (rows prerequisite r))))
+grounds_load r = lists_load r && relations_load r
 
 module _ (r : Record) where
   -- the head's table: at least one object
@@ -140,6 +144,18 @@ module _ (r : Record) where
       first_kinds true true true true =
           later_kinds (table_loads r demarcation) (table_loads r hierarchy) (table_loads r principal) (table_loads r exclusion)
           (table_loads r prerequisite) (table_loads r method) (not (circular (rows hierarchy r))) (not (circular (rows prerequisite r)))
+
+  -- in the order in which they are tested
+  pub loadable_tests : r.objects ≤ most_objects
+      → (graph_loads r && lists_load r) && ((ltb 0 r.objects && relations_load r) && index_agrees r) ≡ loadable r
+  loadable_tests h = same (ltb 0 r.objects) (graph_loads r) (lists_load r) (relations_load r) (index_agrees r) ∙ loadable_parts h
+    where
+      same : (o g l n i : Bool) → (g && l) && ((o && n) && i) ≡ (o && (g && (l && n))) && i
+      same o true true n i = refl
+      same true true false n i = refl
+      same false true false n i = refl
+      same true false l n i = refl
+      same false false l n i = refl
 
 -- the head's table says that there are 1 to 255 objects
 pub head_range : (r : Record) → table_loads r head ≡ true → (1 ≤ r.objects) × (r.objects ≤ most_objects)

@@ -7,17 +7,17 @@ ghost use Rattle.policy.specs.Table as table;
 
 use common::{
     LABEL_COUNT, MOST_DEMARCATIONS, MOST_EDGES, MOST_EXCLUSIONS, MOST_FORMULAS, MOST_METHODS,
-    MOST_PAIRS, MOST_PRINCIPALS, MOST_USERS,
+    MOST_PAIRS, MOST_PRINCIPALS, MOST_USERS, Refusal,
 };
 use edge_index::EdgeIndex;
 
 mod edges;
 pub mod edits;
-pub mod given;
 pub mod loadable;
+pub mod rules;
 
 // For one pair (object, requestor): which formulas have been evaluated, and what they came to.
-#[derive(Clone, Copy)]
+#[derive(Clone, Copy, PartialEq, Eq)]
 #[repr(C)]
 pub struct Memo {
     pub object: u8,
@@ -28,7 +28,7 @@ pub struct Memo {
 
 // The rules of a bundle. Every kind of line is a table: a count, and a column for each number of the line's body.
 // Unused places are zero in a record that was loaded; one built by hand may hold anything.
-#[derive(Clone, Copy)]
+#[derive(Clone, Copy, PartialEq, Eq)]
 #[repr(C)]
 pub struct Record {
     // Objects are 0 to objects - 1.
@@ -76,10 +76,10 @@ pub struct Record {
     pub memo: Memo,
 }
 
-// What an edit answers: document 01's number, and the record.
+// What an edit answers: whether it is refused, and the record.
 #[derive(Clone, Copy)]
 pub struct Edited {
-    pub number: u8,
+    pub outcome: Result<(), Refusal>,
     pub rules: Record,
 }
 
@@ -88,8 +88,8 @@ pub fn emptied(object: u8, requestor: u8) -> Memo
     ensures { result ≡ table.emptied object requestor }
 {
     Memo {
-        object: object,
-        requestor: requestor,
+        object,
+        requestor,
         known: [false; MOST_FORMULAS],
         value: [false; MOST_FORMULAS],
     }
@@ -110,8 +110,6 @@ fn no_index() -> EdgeIndex
 pub fn blank() -> Record
     ensures { result ≡ table.blank }
 {
-    let index = no_index();
-    let memo = emptied(0, 0);
     Record {
         objects: 1,
         user_count: 0,
@@ -142,7 +140,7 @@ pub fn blank() -> Record
         method_count: 0,
         method_forms: [0; MOST_METHODS],
         method_privileges: [0; MOST_METHODS],
-        index: index,
-        memo: memo,
+        index: no_index(),
+        memo: emptied(0, 0),
     }
 }

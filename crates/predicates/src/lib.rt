@@ -2,183 +2,114 @@
 
 #![tactic(auto)]
 
-ghost use Rattle.std.specs.Prelude.{◌≡◌, true, ℕ, ◌≤◌};
-ghost use Rattle.common.specs.Limits.{most_principals};
+ghost use Rattle.std.specs.Prelude.{◌≡◌, true, ◌<◌, MatchResult};
 ghost use Rattle.common.specs.Lists.{at};
+ghost use Rattle.common.specs.RefusalNumbers.{number};
 ghost use Rattle.common.specs.Sets.{In};
-ghost use Rattle.search.specs.Steps.{MetBy};
-ghost use Rattle.policy.specs.Loadable as validity;
 ghost use Rattle.policy.specs.Typed.{Typed};
-ghost use Rattle.justification.specs.Predicates.{is_enabled};
+ghost use Rattle.formula.specs.Formula.{holds};
+ghost use Rattle.search.specs.Steps.{MetBy};
+ghost use Rattle.justification.specs.Predicates.{question_refusal};
 ghost use Rattle.justification.specs.Predicates as spec;
+ghost use Rattle.justification.specs.Verdicts.{verdict_values};
 ghost use Rattle.justification.specs.MarkedSets.{Those};
+ghost use Rattle.predicates.specs.Guards.{Guards, Puts};
 
-use common::MOST_PRINCIPALS;
-use justification::{Question, Verdict};
+use common::Refusal;
+use formula::request::Request;
+use guard::Guard;
+use justification::Question;
 use policy::Record;
+use policy::rules::Rules;
 
-// A thing's number as an index of a table.
-fn index(x: u8) -> usize
-    ensures { result ≡ x }
-{
-    x as usize
-}
+mod guard;
 
-// Those of the first n principals that meet a guard alone.
-fn meeting(n: usize, grants: [u64; MOST_PRINCIPALS], every: bool, wanted: u64) -> u32
-    requires { n ≤ most_principals }
-    ensures { Those n (λ p. MetBy every wanted (at grants p)) result }
-{
-    let mut s: u32 = 0;
-    let mut p: usize = 0;
-    while p < n {
-        let more = justification::marked(s, p, search::meets(every, wanted, grants[p]));
-        s = more;
-        p += 1;
+impl Guard {
+    // The guard of a method.
+    #[tactic(auto, using(crate::proofs::Places::principals_few, crate::proofs::Places::methods_few))]
+    fn of(rules: &Rules<'_>, method: usize) -> Guard
+        requires { method < rules.now.method_count }
+        ensures { Guards rules.now method result }
+    {
+        Guard {
+            count: rules.columns.principal_count,
+            every: rules.columns.method_forms[method] != 0,
+            wanted: justification::listed(rules.columns.method_privileges[method]),
+            grants: justification::grants_of(rules.columns),
+        }
     }
-    s
+
+    // The principals that alone give every wanted privilege, or some.
+    fn met_alone(&self, every: bool) -> u32
+        ensures { Those self.now.count (λ p. MetBy every self.now.wanted (at self.now.grants p)) result }
+    {
+        justification::set_of(
+            self.count,
+            |p| search::meets(every, self.wanted, self.grants[p]),
+        )
+    }
 }
 
 // The enabled principals of those in `among`; no other formula is evaluated.
-pub fn enabled_of(rules: Record, question: Question, among: u32) -> u32
-    requires { validity.loadable rules ≡ true }
-    ensures { Those rules.principal_count (λ p. (In p among) × (is_enabled rules question p ≡ true)) result }
+#[tactic(auto, using(crate::proofs::Places::principals_few, crate::proofs::Places::formula_named))]
+pub fn enabled_of(request: &Request<'_>, among: u32) -> u32
+    ensures { let q = request.now in Those q.rules.principal_count (λ p. (In p among)
+        × (holds q.rules (at q.rules.principal_formulas p) q.object q.object q.requestor ≡ true)) result }
 {
-    let n = rules.principal_count;
-    let object = question.object;
-    let requestor = question.requestor;
-    let roles = formula::roles_of(
-        rules.user_count,
-        &rules.user_objects,
-        &rules.user_roles,
-        requestor,
-    );
-    let mut s: u32 = 0;
-    let mut p: usize = 0;
-    while p < n {
-        let member = p;
-        p += 1;
-        if search::has(among, member) {
-            let f = index(rules.principal_formulas[member]);
-            let value = evaluation::true_at_object(
-                rules.edge_count,
-                &rules.edge_labels,
-                &rules.edge_sources,
-                &rules.edge_targets,
-                &rules.index.firsts,
-                &rules.index.counts,
-                &rules.index.places,
-                &rules.formula_ops,
-                &rules.formula_lefts,
-                &rules.formula_rights,
-                roles,
-                object,
-                requestor,
-                f,
-            );
-            let more = justification::marked(s, member, value);
-            s = more;
-        }
-    }
-    s
+    justification::set_of(request.columns.principal_count, |p| {
+        search::has(among, p)
+            && evaluation::holds(request, usize::from(request.columns.principal_formulas[p]))
+    })
+}
+
+// A question that may be put: the request, and the guard of its method. Else what refuses it.
+#[tactic(auto, using(crate::proofs::Places::method_there))]
+fn put<'a>(rules: &Rules<'a>, question: Question) -> Result<(Request<'a>, Guard), Refusal>
+    ensures { MatchResult result (λ x. Puts rules.now question x.0 x.1)
+        (λ refusal. number refusal ≡ question_refusal rules.now question) }
+{
+    justification::check_question(rules, question)?;
+    let request = Request::of(rules, question.object, question.requestor);
+    Ok((request, Guard::of(rules, usize::from(question.method))))
 }
 
 // Whether all enabled principals together meet the guard, without constraints.
-pub fn liberal(rules: Record, question: Question) -> Verdict
-    ensures { (result ≡ spec.liberal rules question) × Typed rules }
+#[tactic(auto, using(crate::proofs::Verdicts::liberal_unloadable))]
+pub fn liberal(rules: &Record, question: Question) -> Result<bool, Refusal>
+    ensures { (verdict_values result ≡ spec.liberal rules.now question) × Typed rules.now }
 {
-    let loads = policy::loadable::loadable(rules);
-    liberal_given(rules, loads, question)
+    let rules = Rules::of(rules).ok_or(Refusal::NotLoadable)?;
+    decide_liberally(&rules, question)
 }
 
-// The same, where it is known whether some bundle loads to the record. Only the formulas of principals that give a wanted privilege
-// are evaluated.
-pub fn liberal_given(rules: Record, loads: bool, question: Question) -> Verdict
-    requires { loads ≡ validity.loadable rules }
-    ensures { result ≡ spec.liberal rules question }
+// The same, on a record to which some bundle loads. Only the formulas of principals that give a wanted privilege are evaluated.
+#[tactic(auto, using(crate::proofs::Verdicts::liberal_refused))]
+pub fn decide_liberally(rules: &Rules<'_>, question: Question) -> Result<bool, Refusal>
+    ensures { verdict_values result ≡ spec.liberal rules.now question }
 {
-    let number = justification::question_refusal(
-        loads,
-        rules.method_count,
-        rules.objects,
-        rules.user_count,
-        &rules.user_objects,
-        question,
-    );
-    if number != 0 {
-        return Verdict {
-            number: number,
-            yes: false,
-        };
-    }
-    let m = index(question.method);
-    let wanted = justification::listed(rules.method_privileges[m]);
-    let grants = justification::grants_of(
-        rules.demarcation_count,
-        &rules.demarcation_privileges,
-        rules.hierarchy_count,
-        &rules.inferiors,
-        &rules.superiors,
-        rules.principal_count,
-        &rules.principal_demarcations,
-    );
-    let givers = meeting(rules.principal_count, grants, false, wanted);
-    let enabled = enabled_of(rules, question, givers);
-    let given = search::gathered(rules.principal_count, enabled, grants);
-    let yes = search::meets(rules.method_forms[m] != 0, wanted, given);
-    Verdict {
-        number: 0,
-        yes: yes,
-    }
+    let (request, guard) = put(rules, question)?;
+    let givers = guard.met_alone(false);
+    let enabled = enabled_of(&request, givers);
+    let given = search::gathered(guard.count, enabled, &guard.grants);
+    Ok(search::meets(guard.every, guard.wanted, given))
 }
 
 // Whether one enabled principal alone meets the guard, without constraints.
-pub fn strict(rules: Record, question: Question) -> Verdict
-    ensures { (result ≡ spec.strict rules question) × Typed rules }
+#[tactic(auto, using(crate::proofs::Verdicts::strict_unloadable))]
+pub fn strict(rules: &Record, question: Question) -> Result<bool, Refusal>
+    ensures { (verdict_values result ≡ spec.strict rules.now question) × Typed rules.now }
 {
-    let loads = policy::loadable::loadable(rules);
-    strict_given(rules, loads, question)
+    let rules = Rules::of(rules).ok_or(Refusal::NotLoadable)?;
+    decide_strictly(&rules, question)
 }
 
-// The same, where it is known whether some bundle loads to the record. Only the formulas of principals that meet the guard are evaluated.
-pub fn strict_given(rules: Record, loads: bool, question: Question) -> Verdict
-    requires { loads ≡ validity.loadable rules }
-    ensures { result ≡ spec.strict rules question }
+// The same, on a record to which some bundle loads. Only the formulas of principals that meet the guard are evaluated.
+#[tactic(auto, using(crate::proofs::Verdicts::strict_refused))]
+pub fn decide_strictly(rules: &Rules<'_>, question: Question) -> Result<bool, Refusal>
+    ensures { verdict_values result ≡ spec.strict rules.now question }
 {
-    let number = justification::question_refusal(
-        loads,
-        rules.method_count,
-        rules.objects,
-        rules.user_count,
-        &rules.user_objects,
-        question,
-    );
-    if number != 0 {
-        return Verdict {
-            number: number,
-            yes: false,
-        };
-    }
-    let m = index(question.method);
-    let wanted = justification::listed(rules.method_privileges[m]);
-    let grants = justification::grants_of(
-        rules.demarcation_count,
-        &rules.demarcation_privileges,
-        rules.hierarchy_count,
-        &rules.inferiors,
-        &rules.superiors,
-        rules.principal_count,
-        &rules.principal_demarcations,
-    );
-    let able = meeting(
-        rules.principal_count,
-        grants,
-        rules.method_forms[m] != 0,
-        wanted,
-    );
-    let found = enabled_of(rules, question, able);
-    Verdict {
-        number: 0,
-        yes: found != 0,
-    }
+    let (request, guard) = put(rules, question)?;
+    let able = guard.met_alone(guard.every);
+    let found = enabled_of(&request, able);
+    Ok(found != 0)
 }

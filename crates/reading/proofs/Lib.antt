@@ -1,6 +1,6 @@
 pub mod OneLine
 pub mod Bodies
 pub mod Partway
-mod AppendedAt
+pub mod Mapped
 mod TakenLines
 mod Heads

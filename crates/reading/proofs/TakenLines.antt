@@ -1,38 +1,44 @@
 -- The lines that `read_kind` has taken: what its loop keeps, for any kind that has a table.
-use Prim.Native.Nat.{ℕ, ◌+◌, ◌-◌, ◌≤◌, ◌<◌}
-use mathlib.Core.Path.{◌≡◌, refl, sym, ◌∙◌, ap, subst, subst₂}
-use mathlib.Core.List.{List, [], ◌∷◌}
-use native.Mathlib.Omega.{arith}
-use lib.ListN.{length, set, replicate}
-use borrow.Author.Tests.{eq-eqb}
+use Rattle.std.specs.Prelude.{ℕ, ◌+◌, ◌-◌, ◌≤◌, ◌<◌, ◌≡◌, refl, Bool, true, false, not, List, [], ◌∷◌, length, set, replicate, leb, None, Some, Ok, Err}
+use Rattle.std.proofs.Common.{sym, ◌∙◌, ap, subst, arith}
+use mathlib.Core.Path.{subst₂}
+use borrow.Author.Tests.{leb-true}
 use Rattle.common.specs.Lists.{at}
-use Rattle.common.specs.Limits.{most_formulas, most_lines, line_room}
-use Rattle.octets.specs.Line.{total}
+use Rattle.common.specs.BoolLaws.{and_cases}
+use Rattle.common.specs.Causes.{first}
+use Rattle.common.specs.Limits.{most_formulas, most_lines, greatest_height}
+use Rattle.common.specs.RefusalNumbers.{number}
+use Rattle.common.specs.declared.Refusal.{Refusal}
+use Rattle.octets.specs.Line.{Framed, total}
 use Rattle.policy.specs.declared.Record.{Record}
-use Rattle.policy.specs.Table.{Kind, head, user, edge, formula, demarcation, hierarchy, principal, exclusion, prerequisite, method, end}
-use Rattle.policy.specs.Table.{code, count, room, appended, kind_of}
+use Rattle.policy.specs.Table.{Kind, formula}
+use Rattle.policy.specs.Table.{code, count, room, appended, widths}
 use Rattle.policy.specs.LinesBefore.{lines_most}
 use Rattle.policy.specs.Height.{height}
-use Rattle.policy.specs.HeightLaws.{Heights, heights_start, heights_low, height_here, heights_appended}
-use Rattle.policy.specs.LoadableLaws.{table_few}
-use Rattle.policy.specs.TableLaws.{count_same, least_appended}
-use Rattle.policy.specs.Rows.{minimum_key, row_refusal}
+use Rattle.policy.specs.HeightLaws.{Heights, heights_start, heights_appended}
+use Rattle.policy.specs.HeightLaws as laws
+use Rattle.policy.specs.TableLaws.{ColumnLengths, count_same, least_appended}
+use Rattle.policy.specs.Rows.{key, minimum_key, row_refusal}
 use Rattle.policy.specs.RowLaws.{user_values, edge_values, formula_values, demarcation_values, hierarchy_values, principal_values}
 use Rattle.policy.specs.RowLaws.{exclusion_values, prerequisite_values, method_values}
-use Rattle.rows.specs.Op.{op_of, height_of}
+use Rattle.rows.specs.Op.{op_of, height_of, parts_in_range, formula_in_range}
+use Rattle.rows.specs.Checks.{causes}
+use Rattle.lines.specs.declared.TableKind.{TableKind}
+use Rattle.lines.specs.declared.TableKind.TheVariants.{Users, Edges, Formulas, Demarcations, Hierarchy, Principals, Exclusions, Prerequisites, Methods}
 use Rattle.lines.specs.declared.Row.{Row}
+use Rattle.lines.specs.declared.Row.TheVariants.{User, Edge, Formula, Demarcation, Principal, Exclusion, Prerequisite, Method}
+use Rattle.lines.specs.declared.Row.TheVariants as rows
 use Rattle.lines.specs.declared.Bounds.{Bounds}
 use Rattle.lines.specs.declared.Cursor.{Cursor}
+use Rattle.lines.specs.declared.Taken.{Taken}
 use Rattle.lines.specs.NextLine.{no_line, body_line, next_of, octets_in, octets_at}
-use Rattle.lines.specs.Judging.{row_at, fields_of, height_by, refusal_by, moved_past, CursorBound, HeightsLow}
-use Rattle.lines.proofs.JudgedLine.{Refuses, Takes}
+use Rattle.lines.specs.Judging.{table_of, size_of, row_at, kind_in, fields_of, height_by, refusal_by, CursorBound, judged_values, judged_of}
+use Rattle.lines.proofs.JudgedLine.{Refuses, Takes, refusal_here, values_say}
 use Rattle.lines.proofs.JudgedLine.Refuses.{as_line, by_numbers}
 use Rattle.lines.proofs.FoundLine.{FoundLine, found_line}
 use Rattle.reading.specs.declared.Stage.{Stage}
-use Rattle.policy.specs.Table.{widths}
 use Rattle.reading.specs.Body.{numbers}
-use Rattle.reading.specs.Stages.{refused_at, ReadableKind, Ready, Reads}
-use Rattle.reading.proofs.AppendedAt.{appended_at, appended_at_lem}
+use Rattle.reading.specs.Stages.{refused_at, Ready, Reads}
 use Rattle.reading.proofs.Bodies.{fields_at, one_octet, two_octets_lem, numbers_are}
 use Rattle.reading.proofs.Partway.{stage, HasTable, Partway, partway_start, partway_unread, partway_done, partway_refused, has_room_lem}
 use Rattle.reading.proofs.Partway.{partway_more, cursor_bound}
@@ -45,19 +51,28 @@ two os = sym (λ i. one_octet os 2 i ∷ one_octet os 3 i ∷ [])
 three : (os : List ℕ) → fields_at os (1 ∷ 1 ∷ 1 ∷ []) 2 ≡ at os 2 ∷ at os 3 ∷ at os 4 ∷ []
 three os = sym (λ i. one_octet os 2 i ∷ one_octet os 3 i ∷ one_octet os 4 i ∷ [])
 
--- the numbers of a line's body
-row_numbers : (k : Kind) → HasTable k → (os : List ℕ) → fields_at os (widths k) 2 ≡ fields_of k (row_at (total (widths k) + 3) os)
-row_numbers head p os = absurd (let l = p.low in omega arith)
-row_numbers user p os = sym (λ i. one_octet os 2 i ∷ two_octets_lem os 3 i ∷ [])
-row_numbers edge p os = three os
-row_numbers formula p os = three os
-row_numbers demarcation p os = refl
-row_numbers hierarchy p os = two os
-row_numbers principal p os = two os
-row_numbers exclusion p os = two os
-row_numbers prerequisite p os = two os
-row_numbers method p os = sym (λ i. one_octet os 2 i ∷ fields_at os (8 ∷ []) 3)
-row_numbers end p os = absurd (let l = p.high in omega arith)
+-- the numbers of a line's body, and the kind whose they are
+row_numbers : (kind : TableKind) (os : List ℕ) → fields_at os (widths (table_of kind)) 2 ≡ fields_of (row_at kind os)
+row_numbers Users os = sym (λ i. one_octet os 2 i ∷ two_octets_lem os 3 i ∷ [])
+row_numbers Edges os = three os
+row_numbers Formulas os = three os
+row_numbers Demarcations os = refl
+row_numbers Hierarchy os = two os
+row_numbers Principals os = two os
+row_numbers Exclusions os = two os
+row_numbers Prerequisites os = two os
+row_numbers Methods os = sym (λ i. one_octet os 2 i ∷ fields_at os (8 ∷ []) 3)
+
+row_kind : (kind : TableKind) (os : List ℕ) → kind_in (row_at kind os) ≡ table_of kind
+row_kind Users os = refl
+row_kind Edges os = refl
+row_kind Formulas os = refl
+row_kind Demarcations os = refl
+row_kind Hierarchy os = refl
+row_kind Principals os = refl
+row_kind Exclusions os = refl
+row_kind Prerequisites os = refl
+row_kind Methods os = refl
 
 -- what refuses them, held to the counts of a record
 abbrev pub bounds_of : Record → ℕ → ℕ → Bounds
@@ -72,163 +87,241 @@ bounds_of r row least =
           r.principal_count;
     }
 
-row_refused : (k : Kind) → HasTable k → (r : Record) (i : ℕ) {least : ℕ} (h : ℕ) (v : Row) → least ≡ minimum_key k i r
-    → (code k ≡ code formula → h ≡ height_of (op_of v.a) v.b v.c (height r i))
-    → refusal_by k (bounds_of r i least) h v ≡ row_refusal k i r (fields_of k v)
-row_refused head p r i h v e q = absurd (let l = p.low in omega arith)
-row_refused user p r i h v e q = user_values r i v.a _ e
-row_refused edge p r i h v e q = edge_values r i v.a v.b v.c e
-row_refused formula p r i h v e q = formula_values r i v.a v.b v.c (q refl)
-row_refused demarcation p r i h v e q = demarcation_values r i v.wide
-row_refused hierarchy p r i h v e q = hierarchy_values r i v.a v.b e
-row_refused principal p r i h v e q = principal_values r i v.a v.b
-row_refused exclusion p r i h v e q = exclusion_values r i v.a v.b e
-row_refused prerequisite p r i h v e q = prerequisite_values r i v.a v.b e
-row_refused method p r i h v e q = method_values r i v.a v.wide
-row_refused end p r i h v e q = absurd (let l = p.high in omega arith)
+row_refused : (r : Record) (i : ℕ) {least : ℕ} (h : ℕ) (v : Row) → least ≡ minimum_key (kind_in v) i r → h ≡ height_by v (height r i)
+    → refusal_by (bounds_of r i least) h v ≡ row_refusal (kind_in v) i r (fields_of v)
+row_refused r i h (User o w) e q = user_values r i o w e
+row_refused r i h (Edge l x y) e q = edge_values r i l x y e
+row_refused r i h (Formula op a b) e q = formula_values r i op a b q
+row_refused r i h (Demarcation w) e q = demarcation_values r i w
+row_refused r i h (rows.Hierarchy a b) e q = hierarchy_values r i a b e
+row_refused r i h (Principal f d) e q = principal_values r i f d
+row_refused r i h (Exclusion p q) e z = exclusion_values r i p q e
+row_refused r i h (Prerequisite p q) e z = prerequisite_values r i p q e
+row_refused r i h (Method f w) e q = method_values r i f w
+
+-- a formula that passes is not too high
+in_range_passes : (over fine : Bool) → first (causes over (not fine) false) ≡ 0 → fine ≡ true
+in_range_passes true fine e = absurd (omega arith)
+in_range_passes false true e = refl
+in_range_passes false false e = absurd (omega arith)
+
+height_low : (m : Bounds) (heights : ℕ → ℕ) (v : Row) → refusal_by m (height_by v heights) v ≡ 0 → height_by v heights ≤ greatest_height
+height_low m heights (User o w) e = omega arith
+height_low m heights (Edge l x y) e = omega arith
+height_low m heights (Formula op a b) e =
+    let h = height_of (op_of op) a b heights in
+    let fine = in_range_passes (leb most_formulas m.row) (formula_in_range m.row op a b h) e in
+    leb-true h greatest_height (and_cases (parts_in_range (op_of op) m.row a b) (leb h greatest_height) fine).1
+height_low m heights (Demarcation w) e = omega arith
+height_low m heights (rows.Hierarchy a b) e = omega arith
+height_low m heights (Principal f d) e = omega arith
+height_low m heights (Exclusion p q) e = omega arith
+height_low m heights (Prerequisite p q) e = omega arith
+height_low m heights (Method f w) e = omega arith
+
+-- the height that a line says is the same by the heights kept, and by those of the record
+height_same : (r : Record) (heights : List ℕ) (v : Row) → (kind_in v ≡ formula → Heights r heights (count formula r))
+    → height_by v (at heights) ≡ height_by v (height r (count (kind_in v) r))
+height_same r heights (User o w) h = refl
+height_same r heights (Edge l x y) h = refl
+height_same r heights (Formula op a b) h = laws.height_here (h refl) op a b refl
+height_same r heights (Demarcation w) h = refl
+height_same r heights (rows.Hierarchy a b) h = refl
+height_same r heights (Principal f d) h = refl
+height_same r heights (Exclusion p q) h = refl
+height_same r heights (Prerequisite p q) h = refl
+height_same r heights (Method f w) h = refl
+
+-- a formula more, with its height
+formula_more : (r : Record) (heights : List ℕ) (v : Row) → ColumnLengths r → kind_in v ≡ formula → count formula r < most_formulas
+    → Heights r heights (count formula r)
+    → Heights (appended formula r (fields_of v)) (set heights (count formula r) (height_by v (at heights))) (count formula r + 1)
+formula_more r heights (User o w) s e l h = absurd cc
+formula_more r heights (Edge x y z) s e l h = absurd cc
+formula_more r heights (Formula op a b) s e l h = heights_appended op a b s l h refl
+formula_more r heights (Demarcation w) s e l h = absurd cc
+formula_more r heights (rows.Hierarchy a b) s e l h = absurd cc
+formula_more r heights (Principal f d) s e l h = absurd cc
+formula_more r heights (Exclusion p q) s e l h = absurd cc
+formula_more r heights (Prerequisite p q) s e l h = absurd cc
+formula_more r heights (Method f w) s e l h = absurd cc
 
 -- ---- for any kind
 
-has_table : {kind size : ℕ} → ReadableKind kind size → HasTable (kind_of kind)
-has_table w = let e = w.octet.known in let l = w.octet.low in let h = w.octet.high in record { low = omega arith; high = omega arith }
+has_table : (kind : TableKind) → HasTable (table_of kind)
+has_table Users = record { low = omega arith; high = omega arith }
+has_table Edges = record { low = omega arith; high = omega arith }
+has_table Formulas = record { low = omega arith; high = omega arith }
+has_table Demarcations = record { low = omega arith; high = omega arith }
+has_table Hierarchy = record { low = omega arith; high = omega arith }
+has_table Principals = record { low = omega arith; high = omega arith }
+has_table Exclusions = record { low = omega arith; high = omega arith }
+has_table Prerequisites = record { low = omega arith; high = omega arith }
+has_table Methods = record { low = omega arith; high = omega arith }
 
--- a line of any kind fits into the room for one
-line_fits : (k : Kind) → total (widths k) + 3 ≤ line_room
-line_fits head = omega arith
-line_fits user = omega arith
-line_fits edge = omega arith
-line_fits formula = omega arith
-line_fits demarcation = omega arith
-line_fits hierarchy = omega arith
-line_fits principal = omega arith
-line_fits exclusion = omega arith
-line_fits prerequisite = omega arith
-line_fits method = omega arith
-line_fits end = omega arith
-
-pub size_fits : {kind size : ℕ} → ReadableKind kind size → size ≤ line_room
-size_fits {kind} w = let l = line_fits (kind_of kind) in omega (arith, w.sized)
+-- the formulas' table is no other kind's
+pub only_formulas : (kind : TableKind) → table_of kind ≡ formula → kind ≡ Formulas
+only_formulas Formulas e = refl
+only_formulas Users e = absurd cc
+only_formulas Edges e = absurd cc
+only_formulas Demarcations e = absurd cc
+only_formulas Hierarchy e = absurd cc
+only_formulas Principals e = absurd cc
+only_formulas Exclusions e = absurd cc
+only_formulas Prerequisites e = absurd cc
+only_formulas Methods e = absurd cc
 
 -- n lines of the kind have been taken, with the least key that may follow and, of formulas, their heights
-pub record TakenLines (text : List ℕ) (kind : ℕ) (start : Stage) (c : Cursor) (r : Record) (n least : ℕ) (heights : List ℕ) : Type 0 where
-  pub partway : Partway text (kind_of kind) start c r
-  pub counted : n ≡ count (kind_of kind) r
-  pub lowest : least ≡ minimum_key (kind_of kind) (count (kind_of kind) r) r
-  pub high : kind ≡ code formula → Heights r heights (count formula r)
+pub record TakenLines (text : List ℕ) (k : Kind) (start : Stage) (c : Cursor) (r : Record) (n least : ℕ) (heights : List ℕ) : Type 0 where
+  pub partway : Partway text k start c r
+  pub counted : n ≡ count k r
+  pub lowest : least ≡ minimum_key k (count k r) r
+  pub high : k ≡ formula → Heights r heights (count formula r)
 
-pub taken_start : (text : List ℕ) {kind size : ℕ} → ReadableKind kind size → (s : Stage) → s.cursor.number ≡ 0
-    → Ready text (kind_of kind) s
-    → TakenLines text kind s s.cursor s.rules 0 0 (replicate most_formulas 0)
-taken_start text {kind} w s z r =
-    let e : count (kind_of kind) s.rules ≡ 0 = r.empty (kind_of kind) (omega arith) in
-    record {
-      partway = partway_start text (kind_of kind) s z r;
-      counted = sym e;
-      lowest = ap (λ (n : ℕ). minimum_key (kind_of kind) n s.rules) (sym e);
-      high = λ q. heights_start s.rules (r.empty formula (let k = w.octet.known in omega arith));
-    }
+module _ (kind : TableKind) where
+  abbrev k : Kind
+  k = table_of kind
 
-module _ {text : List ℕ} {kind size : ℕ} {start : Stage} {c : Cursor} {r : Record} {n least : ℕ} {heights : List ℕ}
-    (w : ReadableKind kind size) (g : TakenLines text kind start c r n least heights) where
-  as_kind : next_of text c.offset (code (kind_of kind)) size ≡ next_of text c.offset kind size
-  as_kind = ap (λ (o : ℕ). next_of text c.offset o size) w.octet.known
+  pub taken_start : (text : List ℕ) (s : Stage) → Ready text k s → TakenLines text k s s.cursor s.rules 0 0 (replicate most_formulas 0)
+  taken_start text s r =
+      let e : count k s.rules ≡ 0 = r.empty k (omega arith) in
+      record {
+        partway = partway_start text k s r;
+        counted = sym e;
+        lowest = ap (λ (n : ℕ). minimum_key k n s.rules) (sym e);
+        high = λ q. heights_start s.rules (ap (λ (j : Kind). count j s.rules) (sym q) ∙ e);
+      }
 
-  pub taken_bound : CursorBound c
-  taken_bound = cursor_bound text (kind_of kind) g.partway
+  module _ {text : List ℕ} {start : Stage} {c : Cursor} {r : Record} {n least : ℕ} {heights : List ℕ} (g : TakenLines text k start c r n least heights) where
+    pub taken_bound : CursorBound c
+    taken_bound = cursor_bound text k g.partway
 
-  pub taken_heights : HeightsLow kind heights
-  taken_heights q = heights_low (g.high q) (table_few r formula (g.partway.begun.loads formula))
+    -- no line of the kind is left
+    taken_all : next_of text c.offset (code k) (size_of k) ≡ no_line → Reads text k start (Ok (stage c r))
+    taken_all e = partway_done text k (has_table kind) start c r g.partway e
 
-  -- no line of the kind is left
-  pub taken_all : next_of text c.offset kind size ≡ no_line → Reads text (kind_of kind) start (stage c r)
-  taken_all e = partway_done text (kind_of kind) (has_table w) start c r g.partway size (as_kind ∙ e)
+    -- ---- a line of the kind
 
-  -- ---- a line of the kind
+    module _ {next sum : ℕ} {filled : List ℕ} (e : next_of text c.offset (code k) (size_of k) ≡ body_line next sum filled) where
+      found : FoundLine text c.offset (code k) (size_of k) next sum filled
+      found = found_line text c.offset (code k) (size_of k) e
 
-  module _ {next sum : ℕ} (e : next_of text c.offset kind size ≡ body_line next sum) where
-    found : FoundLine text c.offset (code (kind_of kind)) size next sum
-    found = found_line text c.offset (code (kind_of kind)) size (as_kind ∙ e)
+      v : Row
+      v = row_at kind (octets_at text c.offset)
 
-    module _ {v : Row} (q : v ≡ row_at size (octets_at text c.offset)) where
-      fields : numbers (kind_of kind) found.os ≡ fields_of (kind_of kind) v
+      of_kind : kind_in v ≡ k
+      unfolding v
+      of_kind = row_kind kind (octets_at text c.offset)
+
+      fields : numbers k found.os ≡ fields_of v
+      unfolding v
       fields =
-          numbers_are found.os (total (widths (kind_of kind))) (found.sized ∙ w.sized) (kind_of kind) refl
-          ∙ row_numbers (kind_of kind) (has_table w) found.os
-          ∙ ap (fields_of (kind_of kind)) ((λ i. row_at (sym w.sized i) (octets_in (sym found.framed i))) ∙ sym q)
+          numbers_are found.os (total (widths k)) found.sized k refl
+          ∙ row_numbers kind found.os
+          ∙ ap (λ (f : Framed). fields_of (row_at kind (octets_in f))) (sym found.framed)
 
-      module _ {h : ℕ} (u : h ≡ height_by kind v (at heights)) where
-        refusal :
-            refusal_by (kind_of kind) (bounds_of r n least) h v
-            ≡ row_refusal (kind_of kind) (count (kind_of kind) r) r (numbers (kind_of kind) found.os)
-        refusal =
-            ap (λ (m : ℕ). refusal_by (kind_of kind) (bounds_of r m least) h v) g.counted
-            ∙ row_refused (kind_of kind) (has_table w) r (count (kind_of kind) r) h v g.lowest tall
-            ∙ ap (row_refusal (kind_of kind) (count (kind_of kind) r) r) (sym fields)
-          where
-            tall : code (kind_of kind) ≡ code formula → h ≡ height_of (op_of v.a) v.b v.c (height r (count (kind_of kind) r))
-            tall z =
-                let f : kind ≡ code formula = sym w.octet.known ∙ z in
-                height_here (g.high f) v.a v.b v.c (u ∙ rw (eq-eqb kind 4 f))
-                ∙ ap (λ (k : Kind). height_of (op_of v.a) v.b v.c (height r (count k r))) (sym (ap kind_of f))
+      refusal :
+          refusal_here text c kind (bounds_of r n least) (at heights) ≡ row_refusal k (count k r) r (numbers k found.os)
+      unfolding v
+      refusal =
+          ap (λ (m : ℕ). refusal_by (bounds_of r m least) (height_by v (at heights)) v) g.counted
+          ∙ row_refused r (count k r) (height_by v (at heights)) v (g.lowest ∙ ap (λ (j : Kind). minimum_key j (count k r) r) (sym of_kind))
+          (height_same r heights v (λ f. g.high (sym of_kind ∙ f)) ∙ ap (λ (j : Kind). height_by v (height r (count j r))) of_kind)
+          ∙ (λ i. row_refusal (of_kind i) (count k r) r (sym fields i))
 
-  pub taken_refused : {x : ℕ} → Refuses text c kind size (bounds_of r n least) (at heights) x
-      → Reads text (kind_of kind) start (refused_at c x r)
-  taken_refused {x} (as_line e) = partway_unread text (kind_of kind) (has_table w) start c r g.partway size x w.sized (as_kind ∙ e)
-  taken_refused {x} (by_numbers e q u z h) =
-      partway_refused text (kind_of kind) (has_table w) start c r g.partway w.sized (found e) x (z ∙ refusal e q u) h
-
-  module _ {v : Row} {h then : ℕ} {further : Cursor} (t : Takes text c kind size (bounds_of r n least) (at heights) v h then further) where
-    passes : row_refusal (kind_of kind) (count (kind_of kind) r) r (numbers (kind_of kind) (found t.found).os) ≡ 0
-    passes = sym (refusal t.found t.row t.height) ∙ t.passes
-
-    few : count (kind_of kind) r < room (kind_of kind)
-    few = has_room_lem text (kind_of kind) (has_table w) start c r g.partway w.sized (found t.found) passes
-
-    -- the row that it fills, once the kind is known
-    pub taken_room : (j : Kind) → kind_of kind ≡ j → n < room j
-    taken_room j x = subst (λ (k : Kind). n < room k) x (let f = few in omega (arith, g.counted))
-
-    pub taken_few : n < most_lines
-    taken_few = let f = few in let m = lines_most (kind_of kind) in omega (arith, g.counted)
-
-    pub taken_less : length text - further.offset < length text - c.offset
-    taken_less = let f = found t.found in let m = ap (λ (o : Cursor). o.offset) t.moved in omega (arith, f.within, f.follows)
-
-    -- the line is taken
-    pub taken_more : (j : Kind) → kind_of kind ≡ j → {after : Record} {tall : List ℕ} → after ≡ appended_at j n r (fields_of j v)
-        → (kind ≡ code formula → tall ≡ set heights n h) → TakenLines text kind start further after (n + 1) then tall
-    taken_more j x {after} y tall =
-        let low = (has_table w).low in
-        let high = (has_table w).high in
-        let grown : appended (kind_of kind) r (fields_of (kind_of kind) v) ≡ after =
-        sym (appended_at_lem (kind_of kind) r (fields_of (kind_of kind) v))
-        ∙ sym (ap (λ (i : ℕ). appended_at (kind_of kind) i r (fields_of (kind_of kind) v)) g.counted)
-        ∙ ap (λ (k : Kind). appended_at k n r (fields_of k v)) x
-        ∙ sym y in
-        record {
-          partway =
-              subst₂ (Partway text (kind_of kind) start)
-              (ap (λ (o : ℕ). moved_past c o t.following t.sum) w.octet.known ∙ sym t.moved)
-              (ap (appended (kind_of kind) r) (fields t.found t.row) ∙ grown)
-              (partway_more text (kind_of kind) (has_table w) start c r g.partway w.sized (found t.found) (sym passes));
-          counted =
-              ap (λ (m : ℕ). m + 1) g.counted
-              ∙ sym (count_same (kind_of kind) r (fields_of (kind_of kind) v) low high)
-              ∙ ap (count (kind_of kind)) grown;
-          lowest =
-              t.least ∙ sym (least_appended (kind_of kind) r (fields_of (kind_of kind) v) low high g.partway.begun.sized few)
-              ∙ ap (λ (s : Record). minimum_key (kind_of kind) (count (kind_of kind) s) s) grown;
-          high = λ f. taller f grown (tall f);
-        }
+    -- it is refused
+    pub taken_refused : (why : Refusal) → judged_values (Err why) ≡ judged_of text c kind (bounds_of r n least) (at heights)
+        → Reads text k start (Err (refused_at c why))
+    taken_refused why e = go (values_say text c kind (bounds_of r n least) (at heights) (Err why) e)
       where
-        -- a formula more, with its height
-        taller : kind ≡ code formula → {after : Record} {tall : List ℕ} → appended (kind_of kind) r (fields_of (kind_of kind) v) ≡ after
-            → tall ≡ set heights n h
-            → Heights after tall (count formula after)
-        taller f e z =
-            let same : n ≡ count formula r = g.counted ∙ ap (λ (k : Kind). count k r) (ap kind_of f) in
-            let l : count formula r < most_formulas = (let m = taken_room formula (ap kind_of f) in omega arith) in
-            let shown = heights_appended v.a v.b v.c g.partway.begun.sized l (g.high f) (t.height ∙ rw (eq-eqb kind 4 f)) in
-            subst₂ (λ (s : Record) (k : List ℕ). Heights s k (count formula s))
-            (sym (ap (λ (k : Kind). appended k r (fields_of k v)) (ap kind_of f)) ∙ e) (ap (λ (i : ℕ). set heights i h) (sym same) ∙ sym z)
-            (subst (Heights (appended formula r (fields_of formula v)) _) (sym (count_same formula r (fields_of formula v) (omega arith) (omega arith))) shown)
+        go : Refuses text c kind (bounds_of r n least) (at heights) (number why) → Reads text k start (Err (refused_at c why))
+        go (as_line f) = partway_unread text k (has_table kind) start c r g.partway why f
+        go (by_numbers f z h) = partway_refused text k (has_table kind) start c r g.partway (found f) why (z ∙ refusal f)
+
+    -- there is none
+    pub taken_none : judged_values (Ok None) ≡ judged_of text c kind (bounds_of r n least) (at heights) → Reads text k start (Ok (stage c r))
+    taken_none e = taken_all (values_say text c kind (bounds_of r n least) (at heights) (Ok None) e)
+
+    -- it is taken
+    pub taken_one : {t : Taken} → judged_values (Ok (Some t)) ≡ judged_of text c kind (bounds_of r n least) (at heights)
+        → Takes text c kind (bounds_of r n least) (at heights) t
+    taken_one {t} e = values_say text c kind (bounds_of r n least) (at heights) (Ok (Some t)) e
+
+    module _ {t : Taken} (takes : Takes text c kind (bounds_of r n least) (at heights) t) where
+      passes : row_refusal k (count k r) r (numbers k (found takes.found).os) ≡ 0
+      passes = sym (refusal takes.found) ∙ takes.passes
+
+      -- its numbers
+      row_taken : v takes.found ≡ t.row
+      unfolding v
+      row_taken = ap (λ (o : Taken). o.row) (sym takes.same)
+
+      kind_taken : kind_in t.row ≡ k
+      kind_taken = ap kind_in (sym row_taken) ∙ of_kind takes.found
+
+      few : count k r < room k
+      few = has_room_lem text k (has_table kind) start c r g.partway (found takes.found) passes
+
+      -- there is room for it
+      pub taken_room : count (kind_in t.row) r < room (kind_in t.row)
+      taken_room = rw kind_taken few
+
+      pub taken_few : n < most_lines
+      taken_few = let f = few in let m = lines_most k in omega (arith, g.counted)
+
+      pub taken_less : length text - t.cursor.offset < length text - c.offset
+      taken_less =
+          let f = found takes.found in
+          let m = ap (λ (o : Taken). o.cursor.offset) takes.same in omega (arith, f.within, f.follows)
+
+      -- a formula has a place, and its height is small
+      pub taken_place : k ≡ formula → n < most_formulas
+      taken_place f = let l = few in subst (λ (j : Kind). n < room j) f (omega (arith, g.counted))
+
+      height_taken : t.height ≡ height_by t.row (at heights)
+      unfolding v
+      height_taken = ap (λ (o : Taken). o.height) takes.same ∙ ap (λ (x : Row). height_by x (at heights)) row_taken
+
+      pub taken_height : t.height ≤ greatest_height
+      taken_height =
+          rw (ap (λ (o : Taken). o.height) takes.same)
+          (height_low (bounds_of r n least) (at heights) (row_at kind (octets_at text c.offset)) takes.passes)
+
+      pub taken_more : {after : Record} → after ≡ appended (kind_in t.row) r (fields_of t.row)
+          → {tall : List ℕ} → (k ≡ formula → tall ≡ set heights n t.height)
+          → TakenLines text k start t.cursor after (n + 1) t.least_key tall
+      unfolding v
+      taken_more {after} y {tall} z =
+          let low = (has_table kind).low in
+          let high = (has_table kind).high in
+          let w = fields_of t.row in
+          record {
+            partway =
+                subst₂ (Partway text k start)
+                (ap (λ (o : Taken). o.cursor) (sym takes.same))
+                (ap (appended k r) (fields takes.found ∙ ap fields_of row_taken) ∙ grown)
+                (partway_more text k (has_table kind) start c r g.partway (found takes.found) (sym passes));
+            counted = ap (λ (m : ℕ). m + 1) g.counted ∙ sym (count_same k r w low high) ∙ ap (count k) grown;
+            lowest =
+                ap (λ (o : Taken). o.least_key) takes.same
+                ∙ ap (λ (x : Row). key (kind_in x) (fields_of x) + 1) row_taken
+                ∙ ap (λ (j : Kind). key j w + 1) kind_taken
+                ∙ sym (least_appended k r w low high g.partway.begun.sized few)
+                ∙ ap (λ (s : Record). minimum_key k (count k s) s) grown;
+            high = λ f. taller f (z f);
+          }
+        where
+          grown : appended k r (fields_of t.row) ≡ after
+          grown = ap (λ (j : Kind). appended j r (fields_of t.row)) (sym kind_taken) ∙ sym y
+
+          -- a formula more, with its height
+          taller : k ≡ formula → tall ≡ set heights n t.height → Heights after tall (count formula after)
+          taller f z =
+              let same : n ≡ count formula r = g.counted ∙ ap (λ (j : Kind). count j r) f in
+              let l : count formula r < most_formulas = (let m = taken_place f in omega arith) in
+              let w = fields_of t.row in
+              let shown = formula_more r heights t.row g.partway.begun.sized (kind_taken ∙ f) l (g.high f) in
+              subst₂ (λ (s : Record) (x : List ℕ). Heights s x (count formula s))
+              (ap (λ (j : Kind). appended j r w) (sym f) ∙ grown)
+              ((λ i. set heights (sym same i) (sym height_taken i)) ∙ sym z)
+              (subst (Heights (appended formula r w) _) (sym (count_same formula r w (omega arith) (omega arith))) shown)

@@ -15,7 +15,7 @@ use Rattle.policy.specs.TableLaws as tables
 use Rattle.policy.specs.GrowthLaws.{blank_empty}
 use Rattle.policy.specs.RoomLaws.{room_left}
 use Rattle.policy.specs.MemoLaws.{rows_indexed}
-use Rattle.reading.specs.declared.Loaded.{Loaded}
+use Rattle.reading.specs.Loaded.{Loaded}
 use Rattle.policy.specs.Table.{widths}
 use Rattle.reading.specs.Body.{values, numbers, lines_of}
 use Rattle.reading.specs.Loading.{Reading, at_top, after_line, read, load}

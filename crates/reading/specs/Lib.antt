@@ -1,3 +1,4 @@
+pub mod Loaded
 pub mod Body
 pub mod Loading
 pub mod LoadingLaws

@@ -9,7 +9,7 @@ use Rattle.octets.specs.Line.{Framed, refused, octets, kind_octet, body_of, tota
 use Rattle.policy.specs.declared.Record.{Record}
 use Rattle.policy.specs.Table.{Kind, head, hierarchy, prerequisite, end, code, is_kind, count, rows, blank, appended, indexed, kind_of}
 use Rattle.policy.specs.Rows.{row_causes}
-use Rattle.reading.specs.declared.Loaded.{Loaded}
+use Rattle.reading.specs.Loaded.{Loaded}
 use Rattle.policy.specs.Table.{widths}
 use Rattle.reading.specs.Body.{numbers}
 

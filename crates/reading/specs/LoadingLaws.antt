@@ -19,7 +19,7 @@ use Rattle.policy.specs.ColumnLengthLaws.{sized_index}
 use Rattle.edge_index.specs.Index.{index_in}
 use Rattle.policy.specs.TableLaws.{ColumnLengths, blank_loads, sized_blank, sized_appended, count_other}
 use Rattle.policy.specs.GrowthLaws.{tables_more, tables_first, blank_empty}
-use Rattle.reading.specs.declared.Loaded.{Loaded}
+use Rattle.reading.specs.Loaded.{Loaded}
 use Rattle.policy.specs.Table.{widths}
 use Rattle.reading.specs.Body.{numbers}
 use Rattle.reading.specs.Loading.{Reading, at_top, misplaced, end_wrong, line_refusal, after_line, not_loaded, after_last_line, read, load}

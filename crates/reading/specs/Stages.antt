@@ -1,34 +1,34 @@
 -- How far loading has come: the notions that the contracts of the readers cite.
-use Rattle.std.specs.Prelude.{ℕ, ◌+◌, ◌*◌, ◌≤◌, ◌<◌, ◌≡◌, true, cond, ◌||◌, List, [], ◌∷◌, drop, eqb}
+use Rattle.std.specs.Prelude.{ℕ, ◌+◌, ◌*◌, ◌≤◌, ◌<◌, ◌≡◌, true, cond, ◌||◌, List, [], ◌∷◌, drop, Result, Ok, Err, IfOk}
+use Rattle.common.specs.RefusalNumbers.{number}
+use Rattle.common.specs.declared.Refusal.{Refusal}
 use Rattle.common.specs.Refusals.{wrong_kind}
 use Rattle.common.specs.Refusals as refusals
 use Rattle.closure.specs.Closure.{circular}
-use Rattle.octets.specs.Line.{Framed, refused, octets, kind_octet, total, frame, lines}
+use Rattle.octets.specs.Line.{Framed, refused, octets, kind_octet, frame, lines}
 use Rattle.policy.specs.declared.Record.{Record}
 use Rattle.policy.specs.Table.{Kind, user, hierarchy, prerequisite, code, count, rows, indexed, kind_of}
 use Rattle.policy.specs.LinesBefore.{lines_before, following}
 use Rattle.policy.specs.TableLaws.{ColumnLengths}
 use Rattle.policy.specs.Loadable.{table_loads}
 use Rattle.lines.specs.declared.Cursor.{Cursor}
-use Rattle.lines.specs.Judging.{most_line_sum, TableKind}
-use Rattle.reading.specs.declared.Loaded.{Loaded}
+use Rattle.lines.specs.Judging.{most_line_sum}
+use Rattle.reading.specs.Loaded.{Loaded}
+use Rattle.reading.specs.declared.BadLine.{BadLine}
 use Rattle.reading.specs.declared.Stage.{Stage}
-use Rattle.policy.specs.Table.{widths}
 use Rattle.reading.specs.Loading.{Reading, misplaced, not_loaded, read, load}
 
 abbrev pub reading : Stage → Reading
 reading s = record { lines = s.cursor.lines; last = s.cursor.last; sum = s.cursor.sum; rules = s.rules }
 
--- what loading answers from a stage on: the last line was refused with the number, or the lines from the offset on are read
-unfoldable pub loaded_from : List ℕ → Stage → Loaded
-loaded_from text s =
-    cond (eqb s.cursor.number 0) (read (reading s) (lines (drop s.cursor.offset text)))
-    (not_loaded s.cursor.number s.cursor.lines)
+-- what loading answers from the answer of a reader on: a line was refused, or the lines from the stage's offset on are read
+unfoldable pub loaded_from : List ℕ → Result Stage BadLine → Loaded
+loaded_from text (Ok s) = read (reading s) (lines (drop s.cursor.offset text))
+loaded_from text (Err bad) = not_loaded (number bad.refusal) bad.line
 
--- the stage at which the line at the cursor is refused
-abbrev pub refused_at : Cursor → ℕ → Record → Stage
-refused_at c n r =
-    record { cursor = record { number = n; offset = c.offset; lines = c.lines + 1; last = c.last; sum = c.sum }; rules = r }
+-- the line at the cursor, refused
+abbrev pub refused_at : Cursor → Refusal → BadLine
+refused_at c why = record { refusal = why; line = c.lines + 1 }
 
 -- what loading answers after an end line, the last of n lines: a further line is refused; else circles are looked for, and the index is
 -- built
@@ -63,16 +63,11 @@ pub record Ready (text : List ℕ) (k : Kind) (s : Stage) : Type 0 where
       → misplaced (reading s) (kind_of (kind_octet os)) os ≡ true
 
 -- the head's reader
-pub record Starts (text : List ℕ) (s : Stage) : Type 0 where
-  pub same : loaded_from text s ≡ load text
-  pub ready : s.cursor.number ≡ 0 → Ready text user s
-
--- the octet of a kind that has a table, and the size of its lines
-pub record ReadableKind (kind size : ℕ) : Type 0 where
-  pub octet : TableKind kind
-  pub sized : size ≡ total (widths (kind_of kind)) + 3
+pub record Starts (text : List ℕ) (answer : Result Stage BadLine) : Type 0 where
+  pub same : loaded_from text answer ≡ load text
+  pub ready : IfOk answer (Ready text user)
 
 -- the reader of kind k takes a stage to one from which loading answers the same, and is done with its kind, unless a line is refused
-pub record Reads (text : List ℕ) (k : Kind) (s after : Stage) : Type 0 where
-  pub same : loaded_from text after ≡ loaded_from text s
-  pub ready : after.cursor.number ≡ 0 → Ready text (following k) after
+pub record Reads (text : List ℕ) (k : Kind) (s : Stage) (answer : Result Stage BadLine) : Type 0 where
+  pub same : loaded_from text answer ≡ loaded_from text (Ok s)
+  pub ready : IfOk answer (Ready text (following k))

@@ -7,7 +7,7 @@ use Rattle.common.specs.Refusals as refusals
 use Rattle.closure.specs.Closure.{circular}
 use Rattle.octets.specs.Line.{Framed, octets, kind_octet}
 use Rattle.policy.specs.Table.{hierarchy, prerequisite, kind_of, rows, indexed}
-use Rattle.reading.specs.declared.Loaded.{Loaded}
+use Rattle.reading.specs.Loaded.{Loaded}
 use Rattle.reading.specs.Loading.{Reading, line_refusal, after_line, not_loaded, after_last_line, read}
 
 -- the line is taken, and the rest is read after it

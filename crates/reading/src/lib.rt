@@ -2,21 +2,20 @@
 
 #![tactic(auto)]
 
-ghost use Rattle.std.specs.Prelude.{◌≡◌, ◌≤◌, ◌<◌, length};
-ghost use Rattle.common.specs.Limits.{most_lines};
-ghost use Rattle.policy.specs.Table.{kind_of};
-ghost use Rattle.reading.specs.Stages.{refused_at, ReadableKind, Ready, Starts, Reads};
+ghost use Rattle.std.specs.Prelude.{◌≡◌, ◌<◌, length};
+ghost use Rattle.policy.specs.Table.{count, room, appended};
+ghost use Rattle.lines.specs.Judging.{table_of, kind_in, fields_of};
+ghost use Rattle.reading.specs.Stages.{Ready, Starts, Reads};
 
-use common::{LINE_ROOM, MOST_FORMULAS};
-use lines::{Bounds, Cursor, Judged, Next};
+use common::Refusal;
+use lines::{Bounds, Cursor, Heights, Reader, Row, TableKind};
 use policy::Record;
 
-// What loading answers: document 01's number, the line (0 for success), and the record, blank with every refusal.
+// Why a bundle is not loaded, and its line: the one that is refused, or one past the last where the end line is missing.
 #[derive(Clone, Copy)]
-pub struct Loaded {
-    pub number: u8,
+pub struct BadLine {
+    pub refusal: Refusal,
     pub line: usize,
-    pub rules: Record,
 }
 
 // How far loading has come, and what the lines read so far say.
@@ -26,146 +25,139 @@ pub struct Stage {
     pub rules: Record,
 }
 
-// The stage at which the line at the cursor is refused.
-fn stopped(cursor: Cursor, number: u8, rules: Record) -> Stage
-    requires { cursor.lines ≤ most_lines }
-    ensures { result ≡ refused_at cursor number rules }
-{
-    let mut stop = cursor;
-    stop.number = number;
-    stop.lines = cursor.lines + 1;
-    Stage {
-        cursor: stop,
-        rules: rules,
-    }
-}
-
 // Kind 01, the first line.
-pub fn read_head(text: &[u8]) -> Stage
-    requires { 0 < length text.now }
-    ensures { Starts text.now result }
+pub fn read_head(reader: &Reader) -> Result<Stage, BadLine>
+    requires { 0 < length reader.now }
+    ensures { Starts reader.now result }
 {
+    let bad = |refusal| BadLine { refusal, line: 1 };
+    let Some(line) = reader.next_line(0, 0x01, 5).map_err(bad)? else {
+        return Err(bad(Refusal::WrongKind));
+    };
+    let version = line.octets[2];
+    let objects = line.octets[3];
+    rows::check_head(version, objects).map_err(bad)?;
     let top = Cursor {
-        number: 0,
         offset: 0,
         lines: 0,
         last: 0,
         sum: 0,
     };
     let mut rules = policy::blank();
-    let digits = octets::digit_values();
-    let mut octets = [0u8; LINE_ROOM];
-    match lines::next_line(text, 0, 0x01, 5, &digits, &mut octets) {
-        Next::Other => stopped(top, common::WRONG_KIND, rules),
-        Next::Refused(number) => stopped(top, number, rules),
-        Next::Body { next, total } => {
-            let version = octets[2];
-            let objects = octets[3];
-            let number = rows::head_refusal(version, objects);
-            if number != 0 {
-                return stopped(top, number, rules);
-            }
-            rules.objects = objects;
-            let further = lines::past(top, 0x01, next, total);
-            Stage {
-                cursor: further,
-                rules: rules,
-            }
+    rules.objects = objects;
+    Ok(Stage {
+        cursor: top.past(0x01, line),
+        rules,
+    })
+}
+
+// Appends a line to its table. An arm for each table: the record is a flat struct of columns, so that this is longer than other
+// functions.
+#[tactic(auto, unfolding(policy::specs::Table::appended))]
+fn append(rules: &mut Record, row: Row)
+    requires { count (kind_in row) rules.old < room (kind_in row) }
+    ensures { rules.new ≡ appended (kind_in row) rules.old (fields_of row) }
+{
+    match row {
+        Row::User { object, roles } => {
+            let i = rules.user_count;
+            rules.user_objects[i] = object;
+            rules.user_roles[i] = roles;
+            rules.user_count = i + 1;
+        }
+        Row::Edge {
+            label,
+            source,
+            target,
+        } => {
+            let i = rules.edge_count;
+            rules.edge_labels[i] = label;
+            rules.edge_sources[i] = source;
+            rules.edge_targets[i] = target;
+            rules.edge_count = i + 1;
+        }
+        Row::Formula { op, left, right } => {
+            let i = rules.formula_count;
+            rules.formula_ops[i] = op;
+            rules.formula_lefts[i] = left;
+            rules.formula_rights[i] = right;
+            rules.formula_count = i + 1;
+        }
+        Row::Demarcation { privileges } => {
+            let i = rules.demarcation_count;
+            rules.demarcation_privileges[i] = privileges;
+            rules.demarcation_count = i + 1;
+        }
+        Row::Hierarchy { inferior, superior } => {
+            let i = rules.hierarchy_count;
+            rules.inferiors[i] = inferior;
+            rules.superiors[i] = superior;
+            rules.hierarchy_count = i + 1;
+        }
+        Row::Principal {
+            formula,
+            demarcation,
+        } => {
+            let i = rules.principal_count;
+            rules.principal_formulas[i] = formula;
+            rules.principal_demarcations[i] = demarcation;
+            rules.principal_count = i + 1;
+        }
+        Row::Exclusion { low, high } => {
+            let i = rules.exclusion_count;
+            rules.exclusion_lows[i] = low;
+            rules.exclusion_highs[i] = high;
+            rules.exclusion_count = i + 1;
+        }
+        Row::Prerequisite { needed, dependent } => {
+            let i = rules.prerequisite_count;
+            rules.prerequisites[i] = needed;
+            rules.dependents[i] = dependent;
+            rules.prerequisite_count = i + 1;
+        }
+        Row::Method { form, privileges } => {
+            let i = rules.method_count;
+            rules.method_forms[i] = form;
+            rules.method_privileges[i] = privileges;
+            rules.method_count = i + 1;
         }
     }
 }
 
-// Takes the lines of a kind, whose lines have so many octets, from the stage that the reader of the kind before left.
-// The heights of the formulas read so far are kept beside them.
-pub fn read_kind(text: &[u8], kind: u8, size: usize, from: Stage) -> Stage
-    requires { ReadableKind kind size × (from.cursor.number ≡ 0 → Ready text.now (kind_of kind) from) }
-    ensures { Reads text.now (kind_of kind) from result }
+// Takes the lines of a kind, from the stage that the reader of the kind before left. The heights of the formulas read so far are kept
+// beside them.
+pub fn read_kind(reader: &Reader, kind: TableKind, from: Stage) -> Result<Stage, BadLine>
+    requires { Ready reader.now (table_of kind) from }
+    ensures { Reads reader.now (table_of kind) from result }
 {
     let mut cursor = from.cursor;
-    if cursor.number != 0 {
-        return from;
-    }
     let mut rules = from.rules;
-    let mut count: usize = 0;
-    let mut least_key: u32 = 0;
-    let mut heights = [0u8; MOST_FORMULAS];
-    let digits = octets::digit_values();
+    let mut row = 0;
+    let mut least_key = 0;
+    let mut heights = Heights::none();
+    // A `loop`: how many lines the kind has shows only at the line after them.
     loop {
         let bounds = Bounds {
-            row: count,
-            least_key: least_key,
+            row,
+            least_key,
             objects: rules.objects,
             formulas: rules.formula_count,
             demarcations: rules.demarcation_count,
             principals: rules.principal_count,
         };
-        match lines::judged_line(text, cursor, kind, size, bounds, &heights, &digits) {
-            Judged::Other => {
-                return Stage { cursor, rules };
-            }
-            Judged::Refused(number) => {
-                return stopped(cursor, number, rules);
-            }
-            Judged::Taken {
-                row,
-                height,
-                least_key: after,
-                cursor: further,
-            } => {
-                cursor = further;
-                least_key = after;
-                let i = count;
-                count += 1;
-                match kind {
-                    0x02 => {
-                        rules.user_objects[i] = row.a;
-                        rules.user_roles[i] = row.roles;
-                        rules.user_count = count;
-                    }
-                    0x03 => {
-                        rules.edge_labels[i] = row.a;
-                        rules.edge_sources[i] = row.b;
-                        rules.edge_targets[i] = row.c;
-                        rules.edge_count = count;
-                    }
-                    0x04 => {
-                        rules.formula_ops[i] = row.a;
-                        rules.formula_lefts[i] = row.b;
-                        rules.formula_rights[i] = row.c;
-                        rules.formula_count = count;
-                        heights[i] = height;
-                    }
-                    0x05 => {
-                        rules.demarcation_privileges[i] = row.wide;
-                        rules.demarcation_count = count;
-                    }
-                    0x06 => {
-                        rules.inferiors[i] = row.a;
-                        rules.superiors[i] = row.b;
-                        rules.hierarchy_count = count;
-                    }
-                    0x07 => {
-                        rules.principal_formulas[i] = row.a;
-                        rules.principal_demarcations[i] = row.b;
-                        rules.principal_count = count;
-                    }
-                    0x08 => {
-                        rules.exclusion_lows[i] = row.a;
-                        rules.exclusion_highs[i] = row.b;
-                        rules.exclusion_count = count;
-                    }
-                    0x09 => {
-                        rules.prerequisites[i] = row.a;
-                        rules.dependents[i] = row.b;
-                        rules.prerequisite_count = count;
-                    }
-                    _ => {
-                        rules.method_forms[i] = row.a;
-                        rules.method_privileges[i] = row.wide;
-                        rules.method_count = count;
-                    }
-                }
-            }
+        let line = cursor.lines + 1;
+        let Some(taken) = reader
+            .judged_line(cursor, kind, bounds, &heights)
+            .map_err(move |refusal| BadLine { refusal, line })?
+        else {
+            return Ok(Stage { cursor, rules });
+        };
+        if kind == TableKind::Formulas {
+            heights.keep(row, taken.height);
         }
+        append(&mut rules, taken.row);
+        cursor = taken.cursor;
+        least_key = taken.least_key;
+        row += 1;
     }
 }

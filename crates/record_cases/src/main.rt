@@ -12,8 +12,8 @@ const CASES: usize = 715;
 
 // The bundle and the script are read; more than fits is not.
 fn main() {
-    let mut input = [0u8; 32768];
+    let mut input = [0; 32768];
     let n = io::read_full(0, &mut input);
-    let loaded = bundle::load(&input[..BUNDLE]);
-    script::play(&input[..n], CASES, loaded.rules);
+    let loaded = bundle::load(&input[..n.min(BUNDLE)]).unwrap_or(policy::blank());
+    script::play(&input[..n], CASES, &loaded);
 }

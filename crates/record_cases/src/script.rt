@@ -1,8 +1,9 @@
 // The script.
 
-use crate::calls::{Command, Said, after_call};
+use crate::calls::{Said, after_call};
 use policy::Record;
-use record_columns::print::{character, flags, verdict};
+use record_columns::print::{character, flags, number, verdict};
+use record_columns::{set_full_graph, set_number};
 
 // Where `@` leads to: the first line after its caption.
 const CALLS: usize = 382;
@@ -10,111 +11,48 @@ const CALLS: usize = 382;
 // No script takes more steps.
 const STEPS: usize = 100000;
 
-// ---- a command
+// The four octets that stand at an offset: a code, and what it is given.
+fn command_at(text: &[u8], offset: usize) -> [u8; 4] {
+    let mut command = [0; 4];
+    for k in 0..4 {
+        command[k] = octets::octet_at(text, offset, k);
+    }
+    command
+}
 
-// The command that a character opens, whose octets stand at an offset.
-fn command_at(text: &[u8], opening: u8, offset: usize) -> Command {
-    let a = octets::octet_at(text, offset, 1);
-    let b = octets::octet_at(text, offset, 2);
-    Command {
-        opening,
-        code: octets::octet_at(text, offset, 0),
-        a,
-        b,
-        c: octets::octet_at(text, offset, 3),
-        ab: (a as usize) * 256 + (b as usize),
+// Changes the record: 0 the loaded one, 1 the blank one, 2 a full graph, and else a number of a column.
+fn change(rules: &mut Record, loaded: &Record, [code, a, b, c]: [u8; 4]) {
+    match code {
+        0 => *rules = *loaded,
+        1 => *rules = policy::blank(),
+        2 => set_full_graph(rules),
+        _ => set_number(rules, code, u16::from_be_bytes([a, b]), c),
     }
 }
 
-// The record after a command, which changes it if `[` opens it: 0 the loaded one, 1 the blank one, 2 a full graph, and else a number of a
-// column.
-fn changed(loaded: Record, rules: Record, q: Command) -> Record {
-    if q.opening != b'[' {
-        return rules;
-    }
-    let code = q.code;
+// Prints what a code names of what was said.
+fn show(said: &Said, code: u8) {
     match code {
-        0 => return loaded,
-        1 => return policy::blank(),
-        2 => return record_columns::full_graph(rules),
-        _ => {}
-    }
-    record_columns::with_number(rules, code, q.ab, q.c)
-}
-
-// ---- what is printed
-
-// A number that was said
-fn number_of(said: Said, code: u8) -> u64 {
-    match code {
-        1 => said.value as u64,
-        2 => said.evaluations as u64,
-        3 => said.edges as u64,
-        4 => said.memo.object as u64,
-        5 => said.memo.requestor as u64,
-        _ => said.number as u64,
-    }
-}
-
-fn shown(said: Said, code: u8) {
-    let memo = said.memo;
-    let known = memo.known;
-    let value = memo.value;
-    match code {
+        1 => number(u64::from(said.value)),
+        2 => number(u64::from(said.evaluations)),
+        3 => number(said.edges as u64),
+        4 => number(u64::from(said.memo.object)),
+        5 => number(u64::from(said.memo.requestor)),
         6 => verdict(said.left),
         7 => verdict(said.nothing),
         8 => verdict(said.refused),
         9 => verdict(said.evaluations == 0),
         0x10 => verdict(said.value != 0),
-        0x11 => flags(known),
-        0x12 => flags(value),
-        _ => {
-            io::print_decimal(1, number_of(said, code));
-        }
+        0x11 => flags(&said.memo.known),
+        0x12 => flags(&said.memo.value),
+        _ => number(u64::from(said.number)),
     }
 }
 
-fn printed(said: Said, q: Command) {
-    let opening = q.opening;
-    match opening {
-        b'{' => shown(said, q.code),
-        b'[' | b'<' | b'@' | b'$' => {}
-        _ => character(opening),
-    }
-}
-
-// ---- the script
-
-#[derive(Clone, Copy)]
-struct Place {
-    offset: usize,
-    back: usize,
-}
-
-fn place_after(opening: u8, offset: usize, back: usize) -> Place {
-    match opening {
-        b'@' => Place {
-            offset: CALLS,
-            back: offset,
-        },
-        b'$' => Place {
-            offset: back,
-            back: offset,
-        },
-        b'[' | b'<' => Place {
-            offset: std::num::wrapping_add_usize(offset, 9),
-            back,
-        },
-        b'{' => Place {
-            offset: std::num::wrapping_add_usize(offset, 3),
-            back,
-        },
-        _ => Place { offset, back },
-    }
-}
-
-pub fn play(text: &[u8], from: usize, loaded: Record) {
-    let mut rules = loaded;
+// Goes through the script from an offset: `[` changes the record, `<` calls, `{` shows, `@` leads to the calls and `$` back to where it
+// stood; any other character is printed.
+pub fn play(text: &[u8], from: usize, loaded: &Record) {
+    let mut rules = *loaded;
     let mut said = Said {
         number: 0,
         value: 0,
@@ -126,23 +64,35 @@ pub fn play(text: &[u8], from: usize, loaded: Record) {
         refused: true,
     };
     let mut i = from;
-    let mut back: usize = 0;
-    let mut steps: usize = 0;
-    while steps < STEPS {
-        if text.len() <= i {
+    let mut back = 0;
+    for _ in 0..STEPS {
+        let Some(&opening) = text.get(i) else {
             return;
-        }
-        let opening = text[i];
+        };
         let after = i + 1;
-        let q = command_at(text, opening, after);
-        let next = changed(loaded, rules, q);
-        rules = next;
-        let says = after_call(said, rules, q);
-        said = says;
-        printed(said, q);
-        let place = place_after(opening, after, back);
-        i = place.offset;
-        back = place.back;
-        steps += 1;
+        i = after;
+        match opening {
+            b'@' => {
+                i = CALLS;
+                back = after;
+            }
+            b'$' => {
+                i = back;
+                back = after;
+            }
+            b'[' => {
+                change(&mut rules, loaded, command_at(text, after));
+                i = after + 9;
+            }
+            b'<' => {
+                said = after_call(&said, rules, command_at(text, after));
+                i = after + 9;
+            }
+            b'{' => {
+                show(&said, octets::octet_at(text, after, 0));
+                i = after + 3;
+            }
+            _ => character(opening),
+        }
     }
 }

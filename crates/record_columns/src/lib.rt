@@ -1,9 +1,9 @@
-// A record's numbers by column and row: set one by one, and two records compared whole. The program `record_cases` makes its records by
+// A record's numbers by column and row: set one by one. The program `record_cases` makes its records by
 // this; they need not be such as a bundle loads to.
 // A column is two digits: the kind of its lines, and which number of such a line. 30 is an edge's label, 31 its source, 32 its target, A0 a
 // method's form. 9 is the count of the lines: 39 that of edges. 10 is the count of objects. B is the memo: B0 its object, B1 its requestor,
 // B2 what is known, B3 the values. C is the index: C0 first places, C1 numbers of edges, C2 places. A row past the end of its table counts
-// on from the start.
+// on from the start. The digits are those of the script: an enum of the columns would be read from them by one `match`, and matched again.
 
 #![tactic(auto)]
 
@@ -18,8 +18,24 @@ use policy::{Memo, Record};
 
 // ---- numbers set
 
-// The record with an octet set, where the column is one of octets.
-fn with_octet(mut rules: Record, column: u8, row: usize, value: u8) -> Record {
+// Sets a number. A count takes the row for its value, FFFF for the largest number that there is.
+pub fn set_number(rules: &mut Record, column: u8, row: u16, value: u8) {
+    let place = usize::from(row);
+    match column {
+        0x10 => rules.objects = row.to_be_bytes()[1],
+        0x29 | 0x39 | 0x49 | 0x59 | 0x69 | 0x79 | 0x89 | 0x99 | 0xA9 => {
+            let count = if row == u16::MAX { usize::MAX } else { place };
+            set_count(rules, column, count);
+        }
+        0x21 | 0x50 | 0xA1 => set_wide(rules, column, place, value),
+        0xB0..=0xB3 => set_memo(&mut rules.memo, column, place, value),
+        0xC0..=0xC2 => set_index(&mut rules.index, column, place, u16::from(value)),
+        _ => set_octet(rules, column, place, value),
+    }
+}
+
+// A column of octets.
+fn set_octet(rules: &mut Record, column: u8, row: usize, value: u8) {
     match column {
         0x20 => rules.user_objects[row % MOST_USERS] = value,
         0x30 => rules.edge_labels[row % MOST_EDGES] = value,
@@ -39,80 +55,46 @@ fn with_octet(mut rules: Record, column: u8, row: usize, value: u8) -> Record {
         0xA0 => rules.method_forms[row % MOST_METHODS] = value,
         _ => {}
     }
-    rules
 }
 
-// The memo with one of its numbers set, where the column is its own.
-fn with_memo(mut memo: Memo, column: u8, row: usize, value: u8) -> Memo {
+// Roles or privileges.
+fn set_wide(rules: &mut Record, column: u8, row: usize, value: u8) {
+    match column {
+        0x21 => rules.user_roles[row % MOST_USERS] = u16::from(value),
+        0x50 => rules.demarcation_privileges[row % MOST_DEMARCATIONS] = u64::from(value),
+        _ => rules.method_privileges[row % MOST_METHODS] = u64::from(value),
+    }
+}
+
+fn set_count(rules: &mut Record, column: u8, count: usize) {
+    match column {
+        0x29 => rules.user_count = count,
+        0x39 => rules.edge_count = count,
+        0x49 => rules.formula_count = count,
+        0x59 => rules.demarcation_count = count,
+        0x69 => rules.hierarchy_count = count,
+        0x79 => rules.principal_count = count,
+        0x89 => rules.exclusion_count = count,
+        0x99 => rules.prerequisite_count = count,
+        _ => rules.method_count = count,
+    }
+}
+
+fn set_memo(memo: &mut Memo, column: u8, row: usize, value: u8) {
     match column {
         0xB0 => memo.object = value,
         0xB1 => memo.requestor = value,
         0xB2 => memo.known[row % MOST_FORMULAS] = value != 0,
-        0xB3 => memo.value[row % MOST_FORMULAS] = value != 0,
-        _ => {}
+        _ => memo.value[row % MOST_FORMULAS] = value != 0,
     }
-    memo
 }
 
-// The index with one of its numbers set, where the column is its own.
-fn with_index(mut index: EdgeIndex, column: u8, row: usize, value: u8) -> EdgeIndex {
+fn set_index(index: &mut EdgeIndex, column: u8, row: usize, value: u16) {
     match column {
-        0xC0 => index.firsts[row % LABEL_COUNT] = value as u16,
-        0xC1 => index.counts[row % LABEL_COUNT] = value as u16,
-        0xC2 => index.places[row % MOST_EDGES] = value as u16,
-        _ => {}
+        0xC0 => index.firsts[row % LABEL_COUNT] = value,
+        0xC1 => index.counts[row % LABEL_COUNT] = value,
+        _ => index.places[row % MOST_EDGES] = value,
     }
-    index
-}
-
-// The record with roles, privileges or a number of its memo or index set, where the column is one of these.
-fn with_other(mut rules: Record, column: u8, row: usize, value: u8) -> Record {
-    let memo = with_memo(rules.memo, column, row, value);
-    rules.memo = memo;
-    let index = with_index(rules.index, column, row, value);
-    rules.index = index;
-    match column {
-        0x21 => rules.user_roles[row % MOST_USERS] = value as u16,
-        0x50 => rules.demarcation_privileges[row % MOST_DEMARCATIONS] = value as u64,
-        0xA1 => rules.method_privileges[row % MOST_METHODS] = value as u64,
-        _ => {}
-    }
-    rules
-}
-
-// The record with a count set, where the column is a count.
-fn with_count(mut rules: Record, column: u8, n: usize) -> Record {
-    match column {
-        0x10 => rules.objects = (n % 256) as u8,
-        0x29 => rules.user_count = n,
-        0x39 => rules.edge_count = n,
-        0x49 => rules.formula_count = n,
-        0x59 => rules.demarcation_count = n,
-        0x69 => rules.hierarchy_count = n,
-        0x79 => rules.principal_count = n,
-        0x89 => rules.exclusion_count = n,
-        0x99 => rules.prerequisite_count = n,
-        0xA9 => rules.method_count = n,
-        _ => {}
-    }
-    rules
-}
-
-// The count that two octets stand for: FFFF is the largest number that there is.
-fn count_of(n: usize) -> usize {
-    if n == 0xFFFF {
-        return 18446744073709551615;
-    }
-    n
-}
-
-// The record with a number set. A count takes the row for its value.
-pub fn with_number(rules: Record, column: u8, row: usize, value: u8) -> Record {
-    with_count(
-        with_other(with_octet(rules, column, row, value), column, row, value),
-        column,
-        count_of(row),
-    )
 }
 
 // The index of the full graph: every edge has label 0, and by to, then from, 32 of them stand together.
@@ -124,111 +106,20 @@ fn full_index() -> EdgeIndex {
     };
     index.firsts[0] = 0;
     index.counts[0] = 512;
-    let mut i: usize = 0;
-    while i < MOST_EDGES {
+    for i in 0..MOST_EDGES {
         index.places[i] = ((i % 32) * 16 + i / 32) as u16;
-        i += 1;
     }
     index
 }
 
-// The record with 32 objects and 512 edges of label 0: from each object to each of the first 16.
-pub fn full_graph(mut rules: Record) -> Record {
-    let index = full_index();
-    rules.index = index;
+// Gives the record 32 objects and 512 edges of label 0: from each object to each of the first 16.
+pub fn set_full_graph(rules: &mut Record) {
+    rules.index = full_index();
     rules.objects = 32;
     rules.edge_count = MOST_EDGES;
-    let mut i: usize = 0;
-    while i < MOST_EDGES {
-        rules.edge_labels[i] = 0;
+    rules.edge_labels = [0; MOST_EDGES];
+    for i in 0..MOST_EDGES {
         rules.edge_sources[i] = (i / 16) as u8;
         rules.edge_targets[i] = (i % 16) as u8;
-        i += 1;
     }
-    rules
-}
-
-// ---- records compared
-
-// An octet; 0 where the column is none of octets.
-fn octet_at(rules: Record, column: u8, row: usize) -> u8 {
-    match column {
-        0x20 => rules.user_objects[row % MOST_USERS],
-        0x30 => rules.edge_labels[row % MOST_EDGES],
-        0x31 => rules.edge_sources[row % MOST_EDGES],
-        0x32 => rules.edge_targets[row % MOST_EDGES],
-        0x40 => rules.formula_ops[row % MOST_FORMULAS],
-        0x41 => rules.formula_lefts[row % MOST_FORMULAS],
-        0x42 => rules.formula_rights[row % MOST_FORMULAS],
-        0x60 => rules.inferiors[row % MOST_PAIRS],
-        0x61 => rules.superiors[row % MOST_PAIRS],
-        0x70 => rules.principal_formulas[row % MOST_PRINCIPALS],
-        0x71 => rules.principal_demarcations[row % MOST_PRINCIPALS],
-        0x80 => rules.exclusion_lows[row % MOST_EXCLUSIONS],
-        0x81 => rules.exclusion_highs[row % MOST_EXCLUSIONS],
-        0x90 => rules.prerequisites[row % MOST_PAIRS],
-        0x91 => rules.dependents[row % MOST_PAIRS],
-        0xA0 => rules.method_forms[row % MOST_METHODS],
-        _ => 0,
-    }
-}
-
-// A number of the index, as wide as any.
-fn index_at(index: EdgeIndex, column: u8, row: usize) -> u16 {
-    match column {
-        0xC0 => index.firsts[row % LABEL_COUNT],
-        0xC1 => index.counts[row % LABEL_COUNT],
-        _ => index.places[row % MOST_EDGES],
-    }
-}
-
-fn wide(x: u16) -> u64 {
-    x as u64
-}
-
-// A number of any column but the counts and the memo's pair.
-fn number_at(rules: Record, column: u8, row: usize) -> u64 {
-    let memo = rules.memo;
-    match column {
-        0x21 => rules.user_roles[row % MOST_USERS] as u64,
-        0x50 => rules.demarcation_privileges[row % MOST_DEMARCATIONS],
-        0xA1 => rules.method_privileges[row % MOST_METHODS],
-        0xB2 => memo.known[row % MOST_FORMULAS] as u64,
-        0xB3 => memo.value[row % MOST_FORMULAS] as u64,
-        0xC0..=0xC2 => wide(index_at(rules.index, column, row)),
-        _ => octet_at(rules, column, row) as u64,
-    }
-}
-
-// The counts of two records and the pairs of their memos are the same.
-fn same_counts(a: Record, b: Record) -> bool {
-    let graph = (a.objects == b.objects)
-        & ((a.user_count == b.user_count) & (a.edge_count == b.edge_count));
-    let formulas = (a.formula_count == b.formula_count)
-        & (a.demarcation_count == b.demarcation_count);
-    let grounds = (a.hierarchy_count == b.hierarchy_count)
-        & (a.principal_count == b.principal_count);
-    let constraints = (a.exclusion_count == b.exclusion_count)
-        & (a.prerequisite_count == b.prerequisite_count);
-    let memo = (a.memo.object == b.memo.object) & (a.memo.requestor == b.memo.requestor);
-    (graph & formulas) & ((grounds & constraints) & ((a.method_count == b.method_count) & memo))
-}
-
-// The columns that `number_at` reads.
-const COLUMNS: [u8; 24] = [
-    0x20, 0x21, 0x30, 0x31, 0x32, 0x40, 0x41, 0x42, 0x50, 0x60, 0x61, 0x70, 0x71, 0x80, 0x81, 0x90,
-    0x91, 0xA0, 0xA1, 0xB2, 0xB3, 0xC0, 0xC1, 0xC2,
-];
-
-// Two records are the same, unused rows, index and memo included: as many rows as there may be edges cover every table.
-pub fn same_record(a: Record, b: Record) -> bool {
-    let mut same = same_counts(a, b);
-    let mut n: usize = 0;
-    while n < 24 * MOST_EDGES {
-        let column = COLUMNS[n / MOST_EDGES];
-        same = same
-            & (number_at(a, column, n % MOST_EDGES) == number_at(b, column, n % MOST_EDGES));
-        n += 1;
-    }
-    same
 }

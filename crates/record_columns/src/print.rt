@@ -7,33 +7,27 @@ const OUT: i32 = 1;
 
 // One character.
 pub fn character(c: u8) {
-    let one = [c];
-    io::write_all(OUT, &one);
+    io::write_all(OUT, &[c]);
+}
+
+// A number.
+pub fn number(n: u64) {
+    io::print_decimal(OUT, n);
 }
 
 // Yes or no.
 pub fn verdict(yes: bool) {
-    if yes {
-        character(b'y');
-        character(b'e');
-        character(b's');
-        return;
-    }
-    character(b'n');
-    character(b'o');
+    io::write_all(OUT, if yes { b"yes" } else { b"no" });
 }
 
 // The numbers of the flags that are set, in braces.
-pub fn flags(set: [bool; MOST_FORMULAS]) {
+pub fn flags(set: &[bool; MOST_FORMULAS]) {
     character(b'{');
-    let mut f: usize = 0;
-    while f < MOST_FORMULAS {
+    for f in 0..MOST_FORMULAS {
         if set[f] {
             character(b' ');
-            io::print_decimal(OUT, f as u64);
+            number(f as u64);
         }
-        f += 1;
     }
-    character(b' ');
-    character(b'}');
+    io::write_all(OUT, b" }");
 }

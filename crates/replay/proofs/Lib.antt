@@ -1,5 +1,5 @@
 pub mod ReplayLaws
 pub mod PartLaws
-pub mod AnswerCases
-pub mod Stores
+pub mod Listed
 pub mod Replaying
+pub mod SameAnswers

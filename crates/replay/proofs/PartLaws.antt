@@ -12,27 +12,14 @@ use Rattle.policy.specs.declared.Record.{Record}
 use Rattle.reading.specs.Loading.{load}
 use Rattle.history.specs.Book.{Call, number_and_set, engine_after}
 use Rattle.history.specs.Demand3.{CallHolds}
-use Rattle.octets.specs.Number.{number}
-use Rattle.replay.specs.Replay.{call_octets, call_fields_at, ListedCall, call, listed_call_of, listed_call_at, answer_to, answer_octets}
+use Rattle.replay.specs.Replay.{call_octets, ListedCall, call, listed_call_at, answer_to, answer_octets}
 use Rattle.replay.specs.Replay.{left_after, replies, answered_count, buffer_after}
 use Rattle.replay.specs.AnswerLaws.{whole_fit, answer_at_lem}
 use Rattle.replay.specs.BookCalls.{book_calls_of, calls_before}
+use Rattle.replay.proofs.Listed.{same_octets}
 use Rattle.replay.proofs.ReplayLaws.{left_is, point_holds, point_answers}
 use Rattle.replay.specs.Parts.{Part, count_in, left_after_parts, parts_replies, parts_calls, parts_count}
 use Rattle.replay.specs.Parts.{record_at, book_at, PointHolds, PartsHold}
-
--- calls with the same octets are the same
-same_octets : (x y : List ℕ) (k l : ℕ) → ((d : ℕ) → d < call_octets → at x (k + d) ≡ at y (l + d))
-    → listed_call_of (call_fields_at x k) ≡ listed_call_of (call_fields_at y l)
-same_octets x y k l e =
-    λ j. listed_call_of
-    (record {
-      kind = e 0 (omega arith) j;
-      first = e 1 (omega arith) j;
-      second = e 2 (omega arith) j;
-      third = e 3 (omega arith) j;
-      set = number (e 4 (omega arith) j ∷ e 5 (omega arith) j ∷ e 6 (omega arith) j ∷ e 7 (omega arith) j ∷ []);
-    })
 
 -- ---- two parts: a is n whole calls
 
@@ -45,7 +32,7 @@ module _ (a b : List ℕ) (n : ℕ) (whole : length a ≡ call_octets * n) where
 
   -- the calls of a, then those of b
   first_call : (i : ℕ) → i < n → listed_call_at (a ++ b) i ≡ listed_call_at a i
-  first_call i l = same_octets (a ++ b) a (call_octets * i) (call_octets * i) (λ d k. at_first (call_octets * i + d) (omega arith))
+  first_call i l = same_octets (λ d. at (a ++ b) (call_octets * i + d)) (λ d. at a (call_octets * i + d)) (λ d k. at_first (call_octets * i + d) (omega arith))
 
   later_at : (i k : ℕ) → at (a ++ b) (call_octets * (n + i) + k) ≡ at b (call_octets * i + k)
   later_at i k =
@@ -53,7 +40,7 @@ module _ (a b : List ℕ) (n : ℕ) (whole : length a ≡ call_octets * n) where
       ap (at (a ++ b)) e ∙ at_later (call_octets * i + k)
 
   pub later_call : (i : ℕ) → listed_call_at (a ++ b) (n + i) ≡ listed_call_at b i
-  later_call i = same_octets (a ++ b) b (call_octets * (n + i)) (call_octets * i) (λ d k. later_at i d)
+  later_call i = same_octets (λ d. at (a ++ b) (call_octets * (n + i) + d)) (λ d. at b (call_octets * i + d)) (λ d k. later_at i d)
 
   first_calls : (i : ℕ) → i ≤ n → calls_before (a ++ b) i ≡ calls_before a i
   unfolding calls_before

@@ -6,7 +6,7 @@ use Rattle.policy.specs.declared.Record.{Record}
 use Rattle.reading.specs.Loading.{load}
 use Rattle.tickets.specs.declared.Ticket.{Ticket}
 use Rattle.history.specs.Book.{Call, add, remove, ask_eagerly, ask_lazily, check_ticket, Book, plain, first_book}
-use Rattle.history.specs.Book.{book_answer, book_after, number_and_set, engine_leaves, engine_after}
+use Rattle.history.specs.Book.{book_answer, number_and_set, engine_leaves, engine_after}
 use Rattle.history.proofs.Agrees.{Agrees}
 use Rattle.history.proofs.EditAgrees.{add_number_lem, remove_number_lem}
 use Rattle.history.proofs.AskAgrees.{eager_answer, lazy_answer, check_number}

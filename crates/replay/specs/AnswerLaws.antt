@@ -7,7 +7,7 @@ use mathlib.Core.List.{List, ◌++◌, append_assoc}
 use Rattle.std.proofs.Math.Decide.{dec_lt}
 use Rattle.std.proofs.Math.ListN.{take, length-append}
 use Rattle.policy.specs.declared.Record.{Record}
-use Rattle.access.specs.declared.Answer.{Answer}
+use Rattle.access.specs.Answers.{Answer}
 use Rattle.replay.specs.Replay.{call_octets, answer_to, answer_octets, listed_call_at, left_after, replies, answered_count, buffer_after}
 
 -- as many as are whole and fit

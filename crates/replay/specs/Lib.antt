@@ -3,3 +3,4 @@ pub mod LoadLaws
 pub mod AnswerLaws
 pub mod BookCalls
 pub mod Parts
+pub mod CallValues

@@ -1,11 +1,12 @@
 -- Whether some bundle loads to a record is not changed by a call: one test does for a whole list.
-use Rattle.std.specs.Prelude.{ℕ, ◌≡◌, refl, Bool, true, false, cond, List, [], ◌∷◌, eqb}
-use Rattle.std.proofs.Common.{sym, ◌∙◌, ap}
+use Rattle.std.specs.Prelude.{ℕ, ◌≡◌, refl, List, [], ◌∷◌}
+use Rattle.std.proofs.Common.{sym, ◌∙◌}
+use borrow.Author.Tests.{eq-eqb, ne_eqb}
+use native.Mathlib.Decide.{ℕ_discrete}
 use Rattle.common.specs.Lists.{below}
 use Rattle.policy.specs.declared.Record.{Record}
 use Rattle.policy.specs.declared.Memo.{Memo}
-use Rattle.policy.specs.declared.Edited.{Edited}
-use Rattle.policy.specs.Table.{edge, rows, changed}
+use Rattle.policy.specs.Table.{edge, rows}
 use Rattle.policy.specs.Loadable.{loadable}
 use Rattle.policy.specs.Edits.{inserted, without, memo_left, edited, add_refusal, remove_refusal, added, removed}
 use Rattle.policy.specs.EditLaws.{adds, added_loadable, removes, removed_loadable}
@@ -14,21 +15,14 @@ use Rattle.justification.specs.Justification.{candidates}
 use Rattle.justification.specs.Predicates.{question_refusal}
 use Rattle.memo.specs.Walk.{Outcome, granted, denied, evaluated_all, eagerly, walk}
 use Rattle.memo.specs.Memo.{memo_for}
-use Rattle.access.specs.Access.{truth_at, answered, refused, asked, eager, lazy}
+use Rattle.access.specs.Access.{truth_at, answered, asked, eager, lazy}
 use Rattle.history.specs.Book.{add, remove, ask_eagerly, ask_lazily, check_ticket}
 use Rattle.replay.specs.Replay.{ListedCall, call, liberally, strictly, unknown, answer_to}
 
 -- an edit, by its number
 edit_loads : (r : Record) (n : ℕ) (es : List (List ℕ)) (m : Memo)
     → ((edited r n es m).number ≡ 0 → loadable (edited r n es m).rules ≡ loadable r) → loadable (edited r n es m).rules ≡ loadable r
-edit_loads r n es m accepted = go (eqb n 0) refl
-  where
-    is : Bool → Edited
-    is b = cond b (record { number = 0; rules = changed r es m }) (record { number = n; rules = r })
-
-    go : (b : Bool) → eqb n 0 ≡ b → loadable (edited r n es m).rules ≡ loadable r
-    go true e = accepted (ap (λ (b : Bool). (is b).number) e)
-    go false e = ap (λ (b : Bool). loadable (is b).rules) e
+edit_loads r n es m accepted = elim (ℕ_discrete n 0) [ yes z ↦ accepted (rw (eq-eqb n 0 z) refl) | no z ↦ rw (ne_eqb n 0 z) refl ]
 
 add_loads : (r : Record) (l x y : ℕ) → loadable (added r l x y).rules ≡ loadable r
 unfolding added
@@ -49,11 +43,8 @@ answered_loads r before (granted c after) = memo_aside r after
 answered_loads r before (denied after) = memo_aside r after
 
 asked_loads : (r : Record) (n : ℕ) (before : Memo) (x : Outcome) → loadable (asked r n (answered r before x)).rules ≡ loadable r
-asked_loads r n before x = go (eqb n 0) refl
-  where
-    go : (b : Bool) → eqb n 0 ≡ b → loadable (asked r n (answered r before x)).rules ≡ loadable r
-    go true e = ap (λ (b : Bool). loadable (cond b (answered r before x) (refused n r)).rules) e ∙ answered_loads r before x
-    go false e = ap (λ (b : Bool). loadable (cond b (answered r before x) (refused n r)).rules) e
+asked_loads r n before x =
+    elim (ℕ_discrete n 0) [ yes z ↦ rw (eq-eqb n 0 z) (answered_loads r before x) | no z ↦ rw (ne_eqb n 0 z) refl ]
 
 pub answer_loads : (r : Record) (x : ListedCall) → loadable (answer_to r x).rules ≡ loadable r
 unfolding answer_to eager lazy

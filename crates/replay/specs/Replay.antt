@@ -4,16 +4,14 @@ use Rattle.common.specs.Lists.{at}
 use Rattle.common.specs.Refusals.{wrong_kind}
 use Rattle.octets.specs.Number.{number, in_octets}
 use Rattle.policy.specs.declared.Record.{Record}
-use Rattle.policy.specs.declared.Edited.{Edited}
+use Rattle.policy.specs.EditAnswers.{Edited}
 use Rattle.policy.specs.Edits.{added, removed}
 use Rattle.justification.specs.declared.Question.{Question}
-use Rattle.justification.specs.declared.Verdict.{Verdict}
+use Rattle.justification.specs.Verdicts.{Verdict}
 use Rattle.justification.specs.Predicates.{liberal, strict}
-use Rattle.access.specs.declared.Answer.{Answer}
+use Rattle.access.specs.Answers.{Answer}
 use Rattle.access.specs.Access.{eager, lazy}
 use Rattle.tickets.specs.Tickets.{ticket_of, ticket_refusal}
-use Rattle.replay.specs.declared.CallFields.{CallFields}
-use Rattle.replay.specs.declared.Replayed.{Replayed}
 use Rattle.history.specs.Book.{Call, add, remove, ask_eagerly, ask_lazily, check_ticket}
 
 -- a call as it is listed: a call of demand 3, one of the predicates, or no kind that there is
@@ -25,6 +23,13 @@ pub data ListedCall : Type 0 where
 -- a call is so many octets: kind, three numbers, and the set number in 4 octets, the high one first
 abbrev pub call_octets : ℕ
 call_octets = 8
+
+pub record CallFields : Type 0 where
+  pub kind : ℕ
+  pub first : ℕ
+  pub second : ℕ
+  pub third : ℕ
+  pub set : ℕ
 
 abbrev pub call_fields : (ℕ → ℕ) → CallFields
 call_fields octet =
@@ -105,5 +110,9 @@ unfoldable pub buffer_after : Record → List ℕ → List ℕ → List ℕ
 buffer_after r calls buffer = replies r calls (answered_count calls buffer) ++ drop (5 * answered_count calls buffer) buffer
 
 -- how many are answered, and the record that the last of them leaves
+pub record Replayed : Type 0 where
+  pub count : ℕ
+  pub rules : Record
+
 abbrev pub replayed : Record → List ℕ → List ℕ → Replayed
 replayed r calls buffer = record { count = answered_count calls buffer; rules = left_after r calls (answered_count calls buffer) }

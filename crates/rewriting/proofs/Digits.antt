@@ -1,51 +1,24 @@
--- The decimal digits of a line number, one by one, and the text of a refusal.
-use Prim.Native.Nat.{ℕ, suc, ◌+◌, ◌/◌, ◌%◌, ◌≤◌, ◌<◌}
-use mathlib.Core.Path.{◌≡◌, sym, ◌∙◌, ap}
-use mathlib.Core.List.{List, [], ◌∷◌, ◌++◌}
-use native.Mathlib.Omega.{arith}
-use lib.ListN.{length, take}
+-- The decimal digits of a number, as the library writes them.
+use Rattle.std.proofs.Common.{◌≡◌, ℕ, ◌^◌, ◌<◌, List, [], ◌∷◌, ◌++◌, decimal, sym, refl, ap, append_assoc, ◌∙◌, arith}
 use borrow.Author.Tests.{lt-ltb, le-ltb}
-use Rattle.rewriting.specs.Program.{decimals, refused_start, refused_text}
+use Rattle.std.proofs.lemmas.Fmt.{AppendsLastDigit, decimal_from_appends, length-decimal-le}
+use Rattle.rewriting.specs.Program.{decimals, refused_text}
 
-only : (d n : ℕ) → n < 10 → decimals (suc d) n ≡ (48 + n) ∷ []
-only d n l = rw (lt-ltb n 10 l)
+appends : AppendsLastDigit decimals
+appends = record { one = λ k n l. rw (lt-ltb n 10 l) refl; more = λ k n l. rw (le-ltb n 10 l) refl }
 
-last : (d n : ℕ) → n < 10 → decimals (suc d) n ≡ (48 + n % 10) ∷ []
-last d n l = only d n l ∙ ap (λ (k : ℕ). (48 + k) ∷ []) (let e : n ≡ n % 10 = omega arith in e)
+-- of a number of at most k digits
+pub decimals_are : (k n : ℕ) → 0 < k → n < 10 ^ k → n < 2 ^ 64 → decimals k n ≡ decimal n
+decimals_are k n p l h = decimal_from_appends decimals appends k n h (length-decimal-le k n p l h)
 
-more : (d n : ℕ) {ds : List ℕ} → 10 ≤ n → decimals d (n / 10) ≡ ds → decimals (suc d) n ≡ ds ++ ((48 + n % 10) ∷ [])
-more d n l e = rw (le-ltb n 10 l) (ap (λ (ds : List ℕ). ds ++ ((48 + n % 10) ∷ [])) e)
-
-module _ (n : ℕ) where
-  pub one_digit : n < 10 → decimals 5 n ≡ (48 + n % 10) ∷ []
-  one_digit l = last 4 n l
-
-  module _ (l₁ : 10 ≤ n) where
-    pub two_digits : n / 10 < 10 → decimals 5 n ≡ (48 + n / 10 % 10) ∷ (48 + n % 10) ∷ []
-    two_digits l = more 4 n l₁ (last 3 (n / 10) l)
-
-    module _ (l₂ : 10 ≤ n / 10) where
-      pub three_digits : n / 10 / 10 < 10 → decimals 5 n ≡ (48 + n / 10 / 10 % 10) ∷ (48 + n / 10 % 10) ∷ (48 + n % 10) ∷ []
-      three_digits l = more 4 n l₁ (more 3 (n / 10) l₂ (last 2 (n / 10 / 10) l))
-
-      module _ (l₃ : 10 ≤ n / 10 / 10) where
-        pub four_digits : n / 10 / 10 / 10 < 10
-            → decimals 5 n ≡ (48 + n / 10 / 10 / 10 % 10) ∷ (48 + n / 10 / 10 % 10) ∷ (48 + n / 10 % 10) ∷ (48 + n % 10) ∷ []
-        four_digits l = more 4 n l₁ (more 3 (n / 10) l₂ (more 2 (n / 10 / 10) l₃ (last 1 (n / 10 / 10 / 10) l)))
-
-        pub five_digits : 10 ≤ n / 10 / 10 / 10 → n < 100000
-            → decimals 5 n
-            ≡ (48 + n / 10 / 10 / 10 / 10) ∷ (48 + n / 10 / 10 / 10 % 10) ∷ (48 + n / 10 / 10 % 10) ∷ (48 + n / 10 % 10) ∷ (48 + n % 10) ∷
-            []
-        five_digits l₄ l =
-            more 4 n l₁
-            (more 3 (n / 10) l₂ (more 2 (n / 10 / 10) l₃ (more 1 (n / 10 / 10 / 10) l₄ (only 0 (n / 10 / 10 / 10 / 10) (omega arith)))))
-
-pub refused_text_lem : (number line : ℕ) {ds : List ℕ} → number < 10 → decimals 5 line ≡ ds
-    → refused_start (48 + number) (ds ++ (10 ∷ [])) ≡ refused_text number line
-refused_text_lem number line l e = λ j. 82 ∷ 69 ∷ 70 ∷ 85 ∷ 83 ∷ 69 ∷ 68 ∷ 32 ∷ (sym (only 0 number l) j ++ (32 ∷ (sym e j ++ (10 ∷ []))))
-
--- the bytes of which so many count
-pub counted : {bytes start text : List ℕ} {size n : ℕ} → (bytes ≡ start) × (size ≡ n) → take n start ≡ text → n ≤ length start
-    → (take size bytes ≡ text) × (size ≤ length bytes)
-counted {bytes} {start} {text} {size} {n} e f l = ((λ j. take (e.1 j) (e.0 j)) ∙ f, omega (arith, ap length e.0, e.1))
+-- the text of a refusal, piece after piece
+pub refused_is : (number line : ℕ) → number < 10 → line < 100000
+    → ((((82 ∷ 69 ∷ 70 ∷ 85 ∷ 83 ∷ 69 ∷ 68 ∷ 32 ∷ []) ++ decimal number) ++ (32 ∷ [])) ++ decimal line) ++ (10 ∷ [])
+    ≡ refused_text number line
+refused_is number line l m =
+    let n = decimals_are 1 number (omega arith) (omega arith) (omega arith) in
+    let d = decimals_are 5 line (omega arith) (omega arith) (omega arith) in
+    (λ j. ((((82 ∷ 69 ∷ 70 ∷ 85 ∷ 83 ∷ 69 ∷ 68 ∷ 32 ∷ []) ++ sym n j) ++ (32 ∷ [])) ++ sym d j) ++ (10 ∷ []))
+    ∙ ap (λ (t : List ℕ). 82 ∷ 69 ∷ 70 ∷ 85 ∷ 83 ∷ 69 ∷ 68 ∷ 32 ∷ t)
+    (append_assoc (decimals 1 number ++ (32 ∷ [])) (decimals 5 line) (10 ∷ [])
+    ∙ append_assoc (decimals 1 number) (32 ∷ []) (decimals 5 line ++ (10 ∷ [])))

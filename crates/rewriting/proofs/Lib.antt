@@ -1,2 +1,2 @@
 pub mod Digits
-pub mod Shown
+pub mod Printed

@@ -1,6 +1,6 @@
 -- What the program `rewrite` prints for its standard input (document 01, "The bundle").
 use Rattle.std.specs.Prelude.{ℕ, zero, suc, ◌+◌, ◌/◌, ◌%◌, cond, List, [], ◌∷◌, ◌++◌, length, drop, ltb, leb, eqb}
-use Rattle.reading.specs.declared.Loaded.{Loaded}
+use Rattle.reading.specs.Loaded.{Loaded}
 use Rattle.reading.specs.Loading.{load}
 use Rattle.bundle.specs.Writing.{bundle_of}
 
@@ -16,10 +16,6 @@ decimals (suc d) n = cond (ltb n 10) ((48 + n) ∷ []) (decimals d (n / 10) ++ (
 -- `REFUSED`, a space, the number, a space, the line number (of a text of at most 65,536 bytes: at most 5 digits), and 0A
 abbrev pub refused_text : ℕ → ℕ → List ℕ
 refused_text n line = (82 ∷ 69 ∷ 70 ∷ 85 ∷ 83 ∷ 69 ∷ 68 ∷ 32 ∷ []) ++ (decimals 1 n ++ (32 ∷ (decimals 5 line ++ (10 ∷ []))))
-
--- its first ten bytes, with the number's digit, and what follows them
-abbrev pub refused_start : ℕ → List ℕ → List ℕ
-refused_start digit rest = 82 ∷ 69 ∷ 70 ∷ 85 ∷ 83 ∷ 69 ∷ 68 ∷ 32 ∷ digit ∷ 32 ∷ rest
 
 -- `TOO LONG` and 0A
 abbrev pub too_long : List ℕ

@@ -11,9 +11,9 @@ use Rattle.closure.specs.Closure.{circular}
 use Rattle.policy.specs.declared.Record.{Record}
 use Rattle.policy.specs.Table.{Kind, hierarchy, prerequisite, kind_of, rows, indexed}
 use Rattle.policy.specs.Loadable.{loadable}
-use Rattle.reading.specs.declared.Loaded.{Loaded}
+use Rattle.reading.specs.Loaded.{Loaded}
 use Rattle.reading.specs.Loading.{Reading, at_top, line_refusal, after_line, not_loaded, after_last_line, read, load}
-use Rattle.bundle.specs.declared.Written.{Written}
+use Rattle.bundle.specs.Written.{Written}
 use Rattle.bundle.specs.Writing.{bundle_of, length_needed, written, write_refusal, buffer_after}
 use Rattle.bundle.specs.WriterParts.{Writes}
 use Rattle.rewriting.specs.Program.{most_bytes, too_long, refused_text, program, shown_length, shown}

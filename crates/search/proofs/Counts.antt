@@ -1,9 +1,10 @@
 -- How many members a set has, and how many of them are role principals, where R is the set of these.
 use Rattle.std.proofs.Common.{◌≡◌, ℕ, ◌+◌, ◌*◌, ◌/◌, ◌%◌, ◌^◌, ◌<◌, ◌≤◌, sym, refl, ap, ◌∙◌, subst, lt_of_le_of_lt, mod-lt, mod-eq_of_lt, one-mul, arith, pow_pos}
-use lib.Arith.{bin_ind}
-use lib.Pow.{split}
-use lib.Bits.{bit_and, and_block, and_mod, and_comm, and_le_l, and_step}
-use lib.Count.{ones, ones_step, ones_cat}
+use Rattle.std.proofs.Math.Arith.{bin_ind}
+use Rattle.std.proofs.Math.Pow.{split}
+use Rattle.std.proofs.lemmas.Nat.{and_block, and_mod, and_comm, and_le_l, ones_cat}
+use Rattle.std.specs.Int.Bits.{bit_and, and_step}
+use Rattle.std.specs.Int.Count.{ones, ones_step}
 use Rattle.common.specs.CountLaws.{ones_zero}
 use Rattle.common.specs.Sets.{Within}
 use Rattle.common.specs.SetLaws.{in_and, and_in_l, and_in_r, within_and}

@@ -1,15 +1,16 @@
 -- Where the search may turn back, and why no candidate is missed.
-use Rattle.std.proofs.Common.{◌≡◌, ℕ, suc, ◌+◌, ◌-◌, ◌*◌, ◌/◌, ◌%◌, ◌^◌, ◌<◌, ◌≤◌, Bool, true, false, sym, ap, ◌∙◌, subst, ⊎_elim, zero-le, eq-or-lt_of_le, arith, pow_pos, shr-shr}
-use lib.Bits.{bit_and, bit_or}
-use lib.Count.{ones, ones_cat, ones-le}
+use Rattle.std.proofs.Common.{◌≡◌, ℕ, suc, ◌+◌, ◌-◌, ◌*◌, ◌/◌, ◌%◌, ◌^◌, ◌<◌, ◌≤◌, Bool, true, false, refl, sym, ap, ◌∙◌, subst, ⊎_elim, zero-le, eq-or-lt_of_le, arith, pow_pos, shr-shr}
+use Rattle.std.proofs.lemmas.Nat.{ones_cat, ones-le}
+use Rattle.std.specs.Int.Bits.{bit_and, bit_or}
+use Rattle.std.specs.Int.Count.{ones}
 use Rattle.common.specs.Lists.{at}
-use Rattle.common.specs.Sets.{In, Apart, Within}
+use Rattle.common.specs.Sets.{In, Within}
 use Rattle.common.specs.SetLaws.{le_or_lt, in_or_out, none_in_zero, some_in, and_in_l, or_in}
 use Rattle.common.specs.SetLaws.{in_lt, in_ge, in_pow, pow_in, in_sum_l, in_sum_r, sum_in}
 use Rattle.search.specs.declared.Masks.{Masks}
 use Rattle.search.specs.declared.Limit.{Limit}
 use Rattle.search.specs.Search.{Candidate, Met, NoCandidate, role_count_in}
-use Rattle.search.specs.Steps.{MetBy, Gathers, ConflictFree, NoneHolds, Gives, Asks, NoneFrom}
+use Rattle.search.specs.Steps.{MetBy, Gathers, NoneHolds, Gives, Asks, NoneFrom}
 use Rattle.search.specs.Steps.{NeededBy, WithinFrom, Joins, State, NoCompletion, NoneOfSize}
 use Rattle.common.specs.CountLaws.{ones_zero}
 use Rattle.search.proofs.Counts.{ones_and, within_ones, within_role_count, same_members, role_count_zero, role_count_cat}
@@ -49,21 +50,6 @@ module _ {r : Masks} {limit : Limit} {s b : ℕ} where
   no_room f unmet l t h =
       let e : s ≡ t = same_members s t h.held (omega (arith, h.few)) in
       unmet (met_by r f r.every (rw e h.candidate.inside) (rw e h.candidate.met))
-
-  pub not_apart : (Apart s b → ⊥) → NoneHolds r limit s b
-  not_apart f t h = f (λ q i j. h.apart q (h.held q i) j)
-
-  pub not_together : (Within s r.allowed → ConflictFree r s → ⊥) → NoneHolds r limit s b
-  not_together f t h =
-      f
-      (λ p i. h.candidate.allowed p (h.held p i))
-      (λ p i q x y. (h.candidate.consistent p (h.held p i)).apart q (h.held q x) y)
-
-  -- one of none is not to be had
-  pub none_wanted : r.wanted ≡ 0 → r.every ≡ false → NoneHolds r limit s b
-  none_wanted z e t h =
-      let m : Met false r t = subst (λ (v : Bool). Met v r t) e h.candidate.met in
-      none_in_zero m.0 (subst (λ (w : ℕ). In m.0 w) z m.1)
 
   -- ---- by way of the givers
 
@@ -117,15 +103,20 @@ asks_part {r} y e f = record {
       (g.giver, g.member, record { privilege = k.0; asked = k.1; given = g.gives });
 }
 
-wanted_giver : {r : Masks} {t : ℕ} (v : Bool) → (r.wanted ≡ 0 → ⊥) → Met v r t → (q : ℕ) × In q t × Gives r r.wanted q
+-- where g does not meet the guard of every wanted privilege, some privilege is wanted
+some_wanted : (r : Masks) (g : ℕ) → (MetBy r.every r.wanted g → ⊥) → r.every ≡ true → r.wanted ≡ 0 → ⊥
+some_wanted r g f e z =
+    f (subst (λ (v : Bool). MetBy v r.wanted g) (sym e) (λ k i. absurd (none_in_zero k (subst (λ (w : ℕ). In k w) z i))))
+
+wanted_giver : {r : Masks} {t : ℕ} (v : Bool) → (v ≡ true → r.wanted ≡ 0 → ⊥) → Met v r t → (q : ℕ) × In q t × Gives r r.wanted q
 wanted_giver {r} true f m =
-    let k = some_in r.wanted f in
+    let k = some_in r.wanted (f refl) in
     let g = m k.0 k.1 in
     (g.giver, g.member, record { privilege = k.0; asked = k.1; given = g.gives })
 wanted_giver false f m = (m.2.giver, m.2.member, record { privilege = m.0; asked = m.1; given = m.2.gives })
 
-pub asks_all : {r : Masks} → (r.wanted ≡ 0 → ⊥) → Asks r r.wanted
-asks_all {r} f = record { some = λ t d. wanted_giver r.every f d.met }
+pub asks_all : (r : Masks) (g : ℕ) → (MetBy r.every r.wanted g → ⊥) → Asks r r.wanted
+asks_all r g f = record { some = λ t d. wanted_giver r.every (some_wanted r g f) d.met }
 
 -- ---- in the search
 

@@ -1,18 +1,20 @@
 -- The search's steps: from what is found below m to what is found below n = m + 1.
-use Rattle.std.proofs.Common.{◌≡◌, ℕ, suc, ◌+◌, ◌-◌, ◌*◌, ◌^◌, ◌<◌, ◌≤◌, ◌⊎◌, sym, ap, ◌∙◌, subst, inl, inr, ⊎_elim, mul_assoc, add-mul, eq-or-lt_of_le, one-mul, arith, pow_pos, pow_mono}
-use lib.Bits.{bit_or}
-use lib.Count.{ones, ones-le}
+use Rattle.std.proofs.Common.{◌≡◌, ℕ, Bool, true, false, refl, suc, ◌+◌, ◌-◌, ◌*◌, ◌^◌, ◌<◌, ◌≤◌, ◌⊎◌, sym, ap, ◌∙◌, subst, inl, inr, ⊎_elim, mul_assoc, add-mul, eq-or-lt_of_le, one-mul, arith, pow_pos, pow_mono}
+use Rattle.std.proofs.lemmas.Nat.{ones-le}
+use Rattle.std.specs.Int.Bits.{bit_or}
+use Rattle.std.specs.Int.Count.{ones}
 use Rattle.search.specs.declared.Masks.{Masks}
 use Rattle.common.specs.Limits.{most_principals}
-use Rattle.common.specs.Sets.{Apart}
+use Rattle.common.specs.Sets.{Apart, Within}
 use Rattle.search.specs.Search.{Candidate, LeastCandidate, NoCandidate, role_count_in}
-use Rattle.search.specs.Answers.{FoundValues}
+use Rattle.std.specs.Bool.{then_some}
+use Rattle.search.specs.Answers.{FoundValues, found_values}
 use Rattle.search.specs.Answers.GrantedOrDenied.{grants, denies}
 use Rattle.search.specs.Search.Before.{by_members, by_roles, by_number}
-use Rattle.search.specs.Steps.{State, LeastCompletion, NoCompletion, Completed, LeastOfSize, NoneOfSize}
+use Rattle.search.specs.Steps.{Decides, State, LeastCompletion, NoCompletion, Completed, LeastOfSize, NoneOfSize}
 use Rattle.common.specs.CountLaws.{ones_zero, no_ones, ones_top, power_double}
-use Rattle.common.specs.SetLaws.{le_or_lt, none_in_zero, or_in, pow_in, in_lt, in_ge, sum_in}
-use Rattle.search.proofs.Counts.{ones_and, within_role_count, role_count_zero, role_count_top}
+use Rattle.common.specs.SetLaws.{le_or_lt, or_in, pow_in, in_lt, in_ge, sum_in}
+use Rattle.search.proofs.Counts.{ones_and, role_count_zero, role_count_top}
 
 module _ {r : Masks} {n c : ℕ} where
   pub chosen_alone : Candidate r c → LeastCompletion r n 0 0 c c
@@ -28,6 +30,11 @@ module _ {r : Masks} {n c : ℕ} where
 
   pub chosen_fails : (Candidate r c → ⊥) → NoCompletion r n 0 0 c
   chosen_fails f = record { none = λ y l e o d. f (subst (λ (z : ℕ). Candidate r z) (omega (arith, no_ones y e)) d) }
+
+  -- by the test whether the chosen ones are a candidate
+  pub chosen_decided : (b : Bool) → Decides b (Candidate r c) → Completed r n 0 0 c (found_values (then_some b c))
+  chosen_decided true d = grants c refl (chosen_alone (d.yes refl))
+  chosen_decided false d = denies refl (chosen_fails (d.no refl))
 
   pub too_few : {k j : ℕ} → n < k → NoCompletion r n k j c
   too_few h = record { none = λ y l e o d. omega (arith, ones-le n y l) }
@@ -116,7 +123,6 @@ module _ {r : Masks} {n m c : ℕ} (e : n ≡ suc m) where
   -- m is passed by
   pub without : {b : ℕ} → State r n c b → State r m c (bit_or b (2 ^ m))
   without {b} s = record {
-    few = s.few;
     small = omega (arith, s.small);
     head = s.head * 2;
     above = halved s;
@@ -133,12 +139,11 @@ module _ {r : Masks} {n m c : ℕ} (e : n ≡ suc m) where
   }
 
   pub room : {b : ℕ} → State r n c b → (m < most_principals) × (c + 2 ^ m < 2 ^ most_principals)
-  room s = (omega (arith, s.few, s.small), omega (arith, s.room, pow_mono s.few, double e, pow_pos m))
+  room s = (omega (arith, r.few, s.small), omega (arith, s.room, pow_mono r.few, double e, pow_pos m))
 
   -- m is added
   pub «with» : {b : ℕ} → State r n c b → State r m (c + 2 ^ m) b
   «with» {b} s = record {
-    few = s.few;
     small = omega (arith, s.small);
     head = s.head * 2 + 1;
     above = omega (arith, halved s, add-mul (s.head * 2) 1 (2 ^ m), one-mul (2 ^ m));
@@ -147,16 +152,6 @@ module _ {r : Masks} {n m c : ℕ} (e : n ≡ suc m) where
   }
 
 -- ---- from the search to the least candidate
-
-pub start : (r : Masks) → r.count ≤ most_principals → State r r.count 0 0
-start r h = record {
-  few = h;
-  small = omega arith;
-  head = 0;
-  above = omega arith;
-  room = omega arith;
-  barred = λ y l q i j. none_in_zero q j;
-}
 
 -- every candidate of k members has j role principals or more
 module _ {r : Masks} {k j : ℕ} (low : (t : ℕ) → Candidate r t → ones t ≡ k → j ≤ role_count_in r t) where
@@ -183,10 +178,9 @@ module _ {r : Masks} {k j : ℕ} (low : (t : ℕ) → Candidate r t → ones t �
       (λ l. omega arith)
       (eq-or-lt_of_le (low t d u))
 
-  -- and so many are not allowed
-  pub past_roles : {most : ℕ} → most ≡ role_count_in r r.allowed → most < j → NoneOfSize r k
-  past_roles e h =
-      record { none = λ t d u. omega (arith, low t d u, within_role_count r.role_principals t r.allowed d.allowed) }
+  -- no set of k allowed principals has so many
+  pub past_roles : {most : ℕ} → ((t : ℕ) → Within t r.allowed → ones t ≡ k → role_count_in r t ≤ most) → most < j → NoneOfSize r k
+  past_roles most h = record { none = λ t d u. omega (arith, low t d u, most t d.allowed u) }
 
 -- every candidate has k members or more
 module _ {r : Masks} {k : ℕ} (low : (t : ℕ) → Candidate r t → k ≤ ones t) where

@@ -1,17 +1,14 @@
 -- What the members of a set below p list, from p to p + 1, and that it meets the guard where the set does.
 use Rattle.std.proofs.Common.{ℕ, ◌+◌, ◌^◌, ◌<◌, Bool, true, false, List, subst, ⊎_elim, eq-or-lt_of_le, arith}
-use lib.Bits.{bit_or}
+use Rattle.std.specs.Int.Bits.{bit_or}
 use Rattle.common.specs.Lists.{at}
 use Rattle.common.specs.Sets.{In}
-use Rattle.common.specs.SetLaws.{none_in_zero, in_or_l, in_or_r, or_in, in_lt}
+use Rattle.common.specs.SetLaws.{in_or_l, in_or_r, or_in, in_lt}
 use Rattle.search.specs.declared.Masks.{Masks}
 use Rattle.search.specs.Search.{Given, Met}
 use Rattle.search.specs.Steps.{MetBy, Gathers}
 
 module _ {s : ℕ} {lists : List ℕ} where
-  pub gathers_none : Gathers 0 s lists 0
-  gathers_none = record { only = λ k i. absurd (none_in_zero k i); all = λ k p l. absurd (omega arith) }
-
   pub gathers_more : {g : ℕ} (p : ℕ) → In p s → Gathers p s lists g → Gathers (p + 1) s lists (bit_or g (at lists p))
   gathers_more {g} p i h =
       record {

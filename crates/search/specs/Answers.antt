@@ -1,8 +1,6 @@
 -- What a search answers, in document 01's words.
-use Rattle.std.specs.Prelude.{◌≡◌, ℕ}
+use Rattle.std.specs.Prelude.{◌≡◌, ℕ, Option, Some, None}
 use Rattle.common.specs.Refusals.{no_set}
-use Rattle.search.specs.declared.Found.{Found}
-use Rattle.search.specs.declared.Found.TheVariants.{Set, Nothing}
 
 -- document 01's number and set
 pub record FoundValues : Type 0 where
@@ -17,9 +15,9 @@ abbrev pub denied : FoundValues
 denied = record { number = no_set; set = 0 }
 
 -- of each case of an answer
-abbrev pub found_values : Found → FoundValues
-found_values (Set s) = granted s
-found_values Nothing = denied
+abbrev pub found_values : Option ℕ → FoundValues
+found_values (Some s) = granted s
+found_values None = denied
 
 -- what a number and set say: granted, with a set of which P holds; or denied, and Q holds
 pub data GrantedOrDenied (P : ℕ → Type 0) (Q : Type 0) (a : FoundValues) : Type 0 where

@@ -1,7 +1,6 @@
 -- What the functions below `least` say to each other.
 use Rattle.std.specs.Prelude.{◌≡◌, ℕ, ◌+◌, ◌*◌, ◌^◌, ◌<◌, ◌≤◌, Bool, true, false, List, ◌≢◌, count_ones}
 use Rattle.common.specs.Lists.{at}
-use Rattle.common.specs.Limits.{most_principals}
 use Rattle.common.specs.Sets.{In, Apart, Within}
 use Rattle.search.specs.declared.Masks.{Masks}
 use Rattle.search.specs.declared.Limit.{Limit}
@@ -73,7 +72,6 @@ pub record Joins (r : Masks) (c m : ℕ) : Type 0 where
 
 -- c has members from n on alone, all below the count; none of b is in c or added to it
 pub record State (r : Masks) (n c b : ℕ) : Type 0 where
-  pub few : r.count ≤ most_principals
   pub small : n ≤ r.count
   pub head : ℕ
   pub above : c ≡ head * 2 ^ n

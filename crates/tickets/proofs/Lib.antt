@@ -1,2 +1,3 @@
 pub mod TicketLaws
+mod Places
 mod Checking

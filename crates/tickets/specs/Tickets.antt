@@ -1,10 +1,12 @@
 -- Grant tickets (document 02, 2026-01): what the checker answers.
 use Rattle.std.specs.Prelude.{ℕ, ◌^◌, ◌≤◌, ◌≡◌, ◌↔◌, ◌⊎◌, Bool, false, not, cond, ◌&&◌, [], ◌∷◌, ltb, eqb}
-use Rattle.common.specs.Lists.{every}
+use Rattle.common.specs.Lists.{at, every}
 use Rattle.common.specs.Causes.{cause, first}
 use Rattle.common.specs.Refusals.{not_enabled, not_consistent, guard_not_met}
 use Rattle.common.specs.Sets.{In}
 use Rattle.policy.specs.declared.Record.{Record}
+use Rattle.formula.specs.Requests.{Asked}
+use Rattle.formula.specs.Formula.{holds}
 use Rattle.justification.specs.declared.Question.{Question}
 use Rattle.justification.specs.Justification.{members, consistent, meets}
 use Rattle.justification.specs.Predicates.{question_refusal, is_enabled}
@@ -26,6 +28,10 @@ set_refusal r enabled m c =
 -- 20 to 22 are "after 19 and 14 to 16": what refuses the question, if anything does, comes first
 abbrev pub after_question : ℕ → ℕ → ℕ
 after_question refusal n = cond (eqb refusal 0) n refusal
+
+-- principal p is enabled for a request: its formula is true at the object
+abbrev pub enabled_for : Asked → ℕ → Bool
+enabled_for q p = holds q.rules (at q.rules.principal_formulas p) q.object q.object q.requestor
 
 -- "The checker evaluates afresh": `is_enabled` reads no memo
 unfoldable pub ticket_refusal : Record → Ticket → ℕ

@@ -3,19 +3,22 @@
 
 #![tactic(auto)]
 
-ghost use Rattle.std.specs.Prelude.{◌≡◌, true, ℕ, ◌^◌, ◌≤◌, ◌<◌, ltb};
+ghost use Rattle.std.specs.Prelude.{◌≡◌, ℕ, ◌^◌, ◌≤◌, ◌<◌, ltb, cond, ◌&&◌};
 ghost use Rattle.common.specs.Limits.{most_principals};
 ghost use Rattle.common.specs.Lists.{every};
+ghost use Rattle.common.specs.RefusalNumbers.{outcome_number};
+ghost use Rattle.common.specs.Refusals.{not_enabled};
 ghost use Rattle.policy.specs.declared.Record as records;
-ghost use Rattle.policy.specs.Loadable as validity;
 ghost use Rattle.policy.specs.Typed.{Typed};
 ghost use Rattle.justification.specs.Justification.{members};
-ghost use Rattle.justification.specs.Predicates.{is_enabled};
 ghost use Rattle.justification.specs.Masked.{Masked};
-ghost use Rattle.tickets.specs.Tickets.{constraint_refusal, ticket_refusal};
+ghost use Rattle.tickets.specs.Tickets.{constraint_refusal, enabled_for, ticket_refusal};
 
+use common::Refusal;
+use formula::request::Request;
 use justification::Question;
 use policy::Record;
+use policy::rules::Rules;
 use search::Masks;
 
 // A ticket: a question, and the set of principals that is proposed for it.
@@ -25,14 +28,8 @@ pub struct Ticket {
     pub set: u32,
 }
 
-// A method's number as an index.
-fn index(x: u8) -> usize
-    ensures { result ≡ x }
-{
-    x as usize
-}
-
 // Whether every member of the set is a principal, of so many.
+#[tactic(auto, using(crate::proofs::Checking::shifted_out))]
 fn are_principals(count: usize, set: u32) -> bool
     requires { count ≤ most_principals }
     ensures { result ≡ ltb set (2 ^ count) }
@@ -41,42 +38,14 @@ fn are_principals(count: usize, set: u32) -> bool
 }
 
 // Whether every member that is a principal is enabled. Only the members' formulas are evaluated, and none once one is false.
-fn are_enabled(rules: Record, question: Question, set: u32) -> bool
-    requires { validity.loadable rules ≡ true }
-    ensures { result ≡ every (is_enabled rules question) (members rules set) }
+#[tactic(auto, using(crate::proofs::Places::places, crate::proofs::Checking::enabling))]
+fn are_enabled(request: &Request<'_>, set: u32) -> bool
+    ensures { result ≡ every (enabled_for request.now) (members request.now.rules set) }
 {
-    let n = rules.principal_count;
-    let object = question.object;
-    let requestor = question.requestor;
-    let roles = formula::roles_of(
-        rules.user_count,
-        &rules.user_objects,
-        &rules.user_roles,
-        requestor,
-    );
-    let mut p: usize = 0;
-    while p < n {
-        let member = p;
-        p += 1;
-        if search::has(set, member) {
-            let f = index(rules.principal_formulas[member]);
-            let value = evaluation::true_at_object(
-                rules.edge_count,
-                &rules.edge_labels,
-                &rules.edge_sources,
-                &rules.edge_targets,
-                &rules.index.firsts,
-                &rules.index.counts,
-                &rules.index.places,
-                &rules.formula_ops,
-                &rules.formula_lefts,
-                &rules.formula_rights,
-                roles,
-                object,
-                requestor,
-                f,
-            );
-            if !value {
+    for p in 0..request.columns.principal_count {
+        if search::has(set, p) {
+            let f = usize::from(request.columns.principal_formulas[p]);
+            if !evaluation::holds(request, f) {
                 return false;
             }
         }
@@ -84,74 +53,53 @@ fn are_enabled(rules: Record, question: Question, set: u32) -> bool
     true
 }
 
-// 21 where the set is not consistent, then 22 where its members do not meet the guard; else 0. All are principals of the masks' record.
-fn constraint_refusal(masks: Masks, set: u32) -> u8
-    requires { (masks.count ≤ most_principals) × (set < 2 ^ masks.count) }
-    ensures { (rules : records.Record) (m a : ℕ) → Masked rules m a masks → result ≡ constraint_refusal rules m set }
+// 20 where some member is no principal or isn't enabled.
+#[tactic(auto, using(crate::proofs::Places::principals_few))]
+fn check_members(request: &Request<'_>, set: u32) -> Result<(), Refusal>
+    ensures { outcome_number result ≡ cond (ltb set (2 ^ request.now.rules.principal_count)
+        && every (enabled_for request.now) (members request.now.rules set)) 0 not_enabled }
 {
-    if !search::consistent(masks, set) {
-        return common::NOT_CONSISTENT;
+    if are_principals(request.columns.principal_count, set) && are_enabled(request, set) {
+        Ok(())
+    } else {
+        Err(Refusal::NotEnabled)
     }
-    if !search::met(masks, set) {
-        return common::GUARD_NOT_MET;
+}
+
+// 21 where the set is not consistent, then 22 where its members do not meet the guard. All are principals of the masks' record.
+fn check_constraints(masks: &Masks, set: u32) -> Result<(), Refusal>
+    requires { set < 2 ^ masks.now.count }
+    ensures { (rules : records.Record) (m a : ℕ) → Masked rules m a masks.now
+        → outcome_number result ≡ constraint_refusal rules m set }
+{
+    if !masks.consistent(set) {
+        return Err(Refusal::NotConsistent);
     }
-    common::ACCEPTED
+    if !masks.met(set) {
+        return Err(Refusal::GuardNotMet);
+    }
+    Ok(())
 }
 
 // Checks a ticket: 19, 14, 15 or 16 for its question; 20 for a member that is no principal or isn't enabled, 21 for a set that isn't
-// consistent, 22 for a guard not met; 0 where it is accepted.
-pub fn check(rules: Record, ticket: Ticket) -> u8
-    ensures { (result ≡ ticket_refusal rules ticket) × Typed rules }
+// consistent, 22 for a guard not met.
+#[tactic(auto, using(crate::proofs::Checking::not_loadable_lem))]
+pub fn check(rules: &Record, ticket: Ticket) -> Result<(), Refusal>
+    ensures { (outcome_number result ≡ ticket_refusal rules.now ticket) × Typed rules.now }
 {
-    let loads = policy::loadable::loadable(rules);
-    check_given(rules, loads, ticket)
+    let rules = Rules::of(rules).ok_or(Refusal::NotLoadable)?;
+    decide(&rules, ticket)
 }
 
-// The same, where it is known whether some bundle loads to the record.
-pub fn check_given(rules: Record, loads: bool, ticket: Ticket) -> u8
-    requires { loads ≡ validity.loadable rules }
-    ensures { result ≡ ticket_refusal rules ticket }
+// The same, on a record to which some bundle loads.
+#[tactic(auto, using(crate::proofs::Places::method_there, crate::proofs::Checking::refused_question))]
+pub fn decide(rules: &Rules<'_>, ticket: Ticket) -> Result<(), Refusal>
+    ensures { outcome_number result ≡ ticket_refusal rules.now ticket }
 {
     let question = ticket.question;
-    let set = ticket.set;
-    let number = justification::question_refusal(
-        loads,
-        rules.method_count,
-        rules.objects,
-        rules.user_count,
-        &rules.user_objects,
-        question,
-    );
-    if number != 0 {
-        return number;
-    }
-    if !are_principals(rules.principal_count, set) {
-        return common::NOT_ENABLED;
-    }
-    if !are_enabled(rules, question, set) {
-        return common::NOT_ENABLED;
-    }
-    let method = index(question.method);
-    let masks = justification::masks_of(
-        &rules.formula_ops,
-        rules.demarcation_count,
-        &rules.demarcation_privileges,
-        rules.hierarchy_count,
-        &rules.inferiors,
-        &rules.superiors,
-        rules.principal_count,
-        &rules.principal_formulas,
-        &rules.principal_demarcations,
-        rules.exclusion_count,
-        &rules.exclusion_lows,
-        &rules.exclusion_highs,
-        rules.prerequisite_count,
-        &rules.prerequisites,
-        &rules.dependents,
-        &rules.method_forms,
-        &rules.method_privileges,
-        method,
-        0,
-    );
-    constraint_refusal(masks, set)
+    justification::check_question(rules, question)?;
+    let request = Request::of(rules, question.object, question.requestor);
+    check_members(&request, ticket.set)?;
+    let masks = justification::masks_of(rules.columns, usize::from(question.method), 0);
+    check_constraints(&masks, ticket.set)
 }

@@ -1,17 +1,14 @@
 -- Sets of vertices as tables of bools: what is stored in them, and what the loops over them make.
 use mathlib.Core.Path.{◌≡◌, refl, sym, ap, subst, ◌∙◌}
-use mathlib.Core.Bool.{Bool, true, false, cond, ◌&&◌}
+use mathlib.Core.Bool.{Bool, true, false}
 use mathlib.Core.List.{List}
 use Prim.Native.Nat.{ℕ, zero, suc, ◌+◌, ◌<◌, ◌≤◌}
 use native.Mathlib.Omega.{arith}
-use native.Mathlib.Decide.{ℕ_discrete, dec_lt}
+use native.Mathlib.Decide.{dec_lt}
 use native.Mathlib.Nat.{lt_irrefl, not-suc-le-zero, le_of_suc-le-suc}
 use lib.ListN.{length, set, replicate, get_or-eq_default}
 use lib.Seq.{get_or-set_same, get_or-set_other}
-use lib.Dec.{eqb}
 use borrow.Author.Count.{below_more}
-use borrow.Author.Tests.{eq-eqb, ne_eqb}
-use Rattle.common.specs.BoolLaws.{and_true, and_false}
 use Rattle.vertices.specs.Steps.{is_in}
 
 -- every entry of a table of n is false
@@ -25,14 +22,6 @@ pub all_true : (n v : ℕ) → v < n → is_in (replicate n true) v ≡ true
 all_true zero v l = absurd (not-suc-le-zero l)
 all_true (suc n) zero l = refl
 all_true (suc n) (suc v) l = all_true n v (le_of_suc-le-suc l)
-
--- what stands at v after b is stored at y
-pub stored : (r : List Bool) (y : ℕ) (b : Bool) (v : ℕ) → y < length r → is_in (set r y b) v ≡ cond (eqb y v) b (is_in r v)
-stored r y b v h = go (ℕ_discrete y v)
-  where
-    go : Dec (y ≡ v) → is_in (set r y b) v ≡ cond (eqb y v) b (is_in r v)
-    go (yes e) = rw (eq-eqb y v e, ← e) (get_or-set_same r y b false h)
-    go (no n) = rw (ne_eqb y v n) (get_or-set_other r y v b false (λ e. n (sym e)))
 
 -- a table that is filled from the front with q
 pub filled : (q : ℕ → Bool) (r : List Bool) (i : ℕ) → i < length r → ((v : ℕ) → v < i → is_in r v ≡ q v)
@@ -64,14 +53,6 @@ filled_skip q r i e f =
       done = below_more (λ (v : ℕ). is_in r v ≡ q v) i f.done (f.rest i (omega arith) ∙ sym e);
       rest = λ v l. f.rest v (omega arith);
     }
-
--- x alone of a table
-pub picked : (s : List Bool) (x v : ℕ) → cond (eqb x v) (is_in s x) false ≡ (is_in s v && eqb v x)
-picked s x v = go (ℕ_discrete x v)
-  where
-    go : Dec (x ≡ v) → cond (eqb x v) (is_in s x) false ≡ (is_in s v && eqb v x)
-    go (yes e) = rw (eq-eqb x v e, eq-eqb v x (sym e), and_true, e)
-    go (no n) = rw (ne_eqb x v n, ne_eqb v x (λ e. n (sym e)), and_false)
 
 -- past its end a table is false
 pub beyond : (s : List Bool) (n v : ℕ) → length s ≡ n → n ≤ v → is_in s v ≡ false

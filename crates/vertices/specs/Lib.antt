@@ -1,3 +1,5 @@
 pub mod Steps
 pub mod StepLaws
+pub mod Directions
 pub mod Passes
+pub mod Places

@@ -1,5 +1,5 @@
 -- Sets of vertices, and what the edges (label, from, to) lead to.
-use Rattle.std.specs.Prelude.{ℕ, ◌≡◌, Bool, true, false, ◌&&◌, ◌||◌, List, [], ◌∷◌, get_or, eqb, ltb}
+use Rattle.std.specs.Prelude.{ℕ, ◌≡◌, Bool, true, false, ◌&&◌, List, [], ◌∷◌, get_or, eqb}
 use Rattle.common.specs.Lists.{at, any, table}
 
 -- some edge with the label a leads from here, the number i of an edge, to a vertex, its number j, where p holds
@@ -13,17 +13,6 @@ edges_in n labels from to = table n (λ i. at labels i ∷ at from i ∷ at to i
 -- v is in the set
 abbrev pub is_in : List Bool → ℕ → Bool
 is_in t v = get_or t v false
-
--- numbers in place of a vertex: no vertex, and every one
-abbrev pub no_vertex : ℕ
-no_vertex = 256
-
-abbrev pub every_vertex : ℕ
-every_vertex = 257
-
--- v is where the number w says: it is w, or w is every vertex
-abbrev pub placed : ℕ → ℕ → Bool
-placed w v = eqb w every_vertex || (ltb w no_vertex && eqb v w)
 
 -- r has, of the asked vertices, those where p holds
 pub record Among (asked : List Bool) (p : ℕ → Bool) (r : List Bool) : Type 0 where

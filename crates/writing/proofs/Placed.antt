@@ -4,10 +4,10 @@ use mathlib.Core.Path.{◌≡◌, refl, sym, ◌∙◌, ap}
 use mathlib.Core.Bool.{true}
 use mathlib.Core.List.{List, [], ◌∷◌, ◌++◌, append-nil}
 use native.Mathlib.Omega.{arith}
-use lib.ListN.{length, take, drop, length-append, length-drop}
+use lib.ListN.{length, take, drop, length-drop}
 use lib.Seq.{take_all, drop-drop, drop-length}
 use borrow.Author.Tests.{le-leb}
-use borrow.Rule.Slice.PartMut.{put_mid, same_len_mid}
+use borrow.Rule.Slice.PartMut.{put_mid}
 use Rattle.octets.specs.Line.{total, framed, line_bytes, text_of}
 use Rattle.octets.proofs.WritingLaws.{length_line}
 use Rattle.octets.specs.Answers.{has_room, written_length, written_buffer}
@@ -87,14 +87,3 @@ module _ (kind : ℕ) (body before : List ℕ) (d : Draft) (small : length body 
         sum = omega (arith, g.0);
         fair = omega (arith, g.0, g.1);
       }
-
-  -- the buffer is as long as it was
-  pub same_buffer : {after : List ℕ} → after ≡ written_buffer kind body lent → length (whole after) ≡ length before
-  same_buffer {after} f = same_len_mid d.offset (length before - d.offset) before after rest
-    where
-      rest : length after ≡ length lent
-      rest =
-          let r : 2 * length body + 7 ≤ length lent = room in
-          ap length (f ∙ line_buffer kind body lent small room)
-          ∙ length-append (line_bytes (framed kind body)) (drop (2 * length body + 7) lent)
-          ∙ (let n = length_line kind body in let m = length-drop (2 * length body + 7) lent in omega arith)

@@ -16,9 +16,6 @@ pub record Summed (kind : ℕ) (body : List ℕ) (sum i : ℕ) : Type 0 where
   pub small : sum ≤ length body + kind + 255 * i
   pub within : i ≤ length body
 
-pub summed_none : (kind : ℕ) (body : List ℕ) → Summed kind body (length body + kind) 0
-summed_none kind body = record { added = omega arith; small = omega arith; within = omega arith }
-
 pub summed_more : {kind sum i o : ℕ} {body : List ℕ} → Summed kind body sum i → i < length body → o ≡ at body i → o ≤ 255
     → Summed kind body (sum + o) (i + 1)
 summed_more {kind} {sum} {i} {o} {body} s l e h =

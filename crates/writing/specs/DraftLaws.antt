@@ -3,11 +3,11 @@ use Rattle.std.specs.Prelude.{ℕ, zero, suc, ◌+◌, ◌*◌, ◌≤◌, ◌<�
 use Rattle.std.proofs.Common.{sym, ◌∙◌, ap, subst, append_assoc, arith, zero-mul, suc-mul, mul-le-mul_right, add-one, length-append, take-append-drop, length-drop, length-take-le, drop-drop}
 use Rattle.std.proofs.Math.Seq.{take-append-add, take-append_seam, drop-append-add}
 use Rattle.common.specs.Lists.{table}
-use Rattle.common.specs.ListLaws.{length_table}
 use Rattle.octets.proofs.LineLaws.{totals_append}
+use Rattle.octets.proofs.WritingLaws.{length_line}
 use Rattle.octets.specs.Line.{framed, line_bytes, text_of}
 use Rattle.writing.specs.declared.Draft.{Draft}
-use Rattle.writing.specs.Drafts.{longest_body, RoomFor, Put}
+use Rattle.writing.specs.Drafts.{RoomFor, Put, Grown, Gives, lines_of}
 
 pub text_append : (ls ms : List (List ℕ)) → text_of (ls ++ ms) ≡ text_of ls ++ text_of ms
 text_append [] ms = refl
@@ -85,56 +85,42 @@ text_size (suc n) size f h =
     let e = suc-mul n size in
     omega arith)
 
--- so many of the lines have been written
-pub record Writing (b : List ℕ) (d : Draft) (count : ℕ) (f : ℕ → List ℕ) (c : List ℕ) (e : Draft) (i : ℕ) : Type 0 where
-  pub put : Put b c d e (table i f)
-  pub within : i ≤ count
+-- the lines of so many rows, each of so many bytes, have been written, as a closure gave their bodies
+pub record Writing {B : Type 0} (octets : B → List ℕ) (post : ℕ → B → Type 0) (size kind : ℕ) (b : List ℕ) (d : Draft) (c : List ℕ) (e : Draft)
+    (i : ℕ) : Type 0 where
+  pub grown : Grown b c d e i size
+  pub put : (bodies : ℕ → List ℕ) → Gives octets post i bodies → Put b c d e (table i (lines_of kind bodies))
 
-pub writing_start : (b : List ℕ) (d : Draft) (count : ℕ) (f : ℕ → List ℕ) → Writing b d count f b d 0
-writing_start b d count f = record { put = put_none b d; within = omega arith }
-
-module _ {b c : List ℕ} {d e : Draft} {count i : ℕ} {f : ℕ → List ℕ} (size : ℕ) (sized : (j : ℕ) → length (line_bytes (f j)) ≡ size)
-    (space : RoomFor b d count size) (w : Writing b d count f c e i) where
-  written_offset : e.offset ≡ d.offset + i * size
-  written_offset = omega (arith, w.put.offset, text_size i size f sized)
-
-  room_before : e.offset ≤ length b
-  room_before = omega (arith, written_offset, space.room, mul-le-mul_right size w.within)
-
-  pub writing_length : length c ≡ length b
-  writing_length = put_length room_before w.put
-
+module _ {B : Type 0} {octets : B → List ℕ} {post : ℕ → B → Type 0} {size kind : ℕ} {b : List ℕ} {d : Draft} {c : List ℕ} {e : Draft} {i count : ℕ}
+    (w : Writing octets post size kind b d c e i) (space : RoomFor b d count size) (l : i < count) where
   -- there is room for the next one
-  pub writing_room : i < count → RoomFor c e 1 size
-  writing_room l =
+  writing_room : RoomFor c e 1 size
+  writing_room =
       let m : suc i * size ≤ count * size = mul-le-mul_right size l in
-      let s = suc-mul i size in
-      let p = written_offset in
-      let n = writing_length in
-      let t = length_table i f in
       record {
-        room = omega (arith, p, space.room);
-        few = omega (arith, w.put.lines, space.few);
-        fair = omega (arith, w.put.lines, w.put.sum, w.put.fair, space.fair);
+        room = omega (arith, suc-mul i size, w.grown.offset, w.grown.long, space.room);
+        few = omega (arith, w.grown.lines, space.few);
+        fair = w.grown.fair;
       }
 
-  pub writing_more : {a : List ℕ} {g : Draft} → i < count → Put c a e g (f i ∷ []) → Writing b d count f a g (i + 1)
-  writing_more {a} {g} l p =
+  pub writing_more : {a : List ℕ} {g : Draft} {body : List ℕ} (r : B) → post i r → body ≡ octets r → size ≡ 2 * length body + 7
+      → Put c a e g (framed kind body ∷ []) → Writing octets post size kind b d a g (i + 1)
+  writing_more {a} {g} {body} r h is long p =
       record {
-        put = subst (λ (n : ℕ). Put b a d g (table n f)) (sym (add-one i)) (put_join (omega (arith, space.room)) w.put p);
-        within = omega arith;
+        grown = record {
+          offset = omega (arith, p.offset, w.grown.offset, one, suc-mul i size);
+          lines = omega (arith, p.lines, w.grown.lines);
+          fair = omega (arith, w.grown.fair, p.fair, p.lines, p.sum);
+          long = put_length (omega (arith, p.offset, one, writing_room.room, w.grown.long)) p ∙ w.grown.long;
+        };
+        put = λ bodies gives.
+            let next : framed kind body ≡ lines_of kind bodies i = ap (framed kind) (is ∙ gives i r (omega arith) h) in
+            subst (λ (ls : List (List ℕ)). Put b a d g ls) (ap (λ (os : List ℕ). table i (lines_of kind bodies) ++ (os ∷ [])) next ∙ ap (λ (n : ℕ). table n (lines_of kind bodies)) (sym (add-one i)))
+            (put_join (omega (arith, w.grown.offset, space.room, mul-le-mul_right size l, suc-mul i size))
+            (w.put bodies (λ j x k q. gives j x (omega arith) q)) p);
       }
-
-  pub writing_end : count ≤ i → Put b c d e (table count f)
-  writing_end l = subst (λ (n : ℕ). Put b c d e (table n f)) (let m : i ≡ count = omega (arith, w.within) in m) w.put
-
--- ---- a body that was made by a call
-
-pub room_body : {buffer body b : List ℕ} {d : Draft} → body ≡ b → length b ≤ longest_body → RoomFor buffer d 1 (2 * length b + 7)
-    → (length body ≤ longest_body) × RoomFor buffer d 1 (2 * length body + 7)
-room_body {buffer} {body} {b} {d} e l h =
-    subst (λ (o : List ℕ). (length o ≤ longest_body) × RoomFor buffer d 1 (2 * length o + 7)) (sym e) (l, h)
-
-pub put_body : {c a : List ℕ} {e g : Draft} (kind : ℕ) {body b : List ℕ} → body ≡ b
-    → Put c a e g (framed kind body ∷ []) → Put c a e g (framed kind b ∷ [])
-put_body {c} {a} {e} {g} kind p h = subst (λ (o : List ℕ). Put c a e g (framed kind o ∷ [])) p h
+    where
+      one : length (text_of (framed kind body ∷ [])) ≡ size
+      one =
+          length-append (line_bytes (framed kind body)) []
+          ∙ (let n = length_line kind body in let z : length (line_bytes (framed kind body)) + 0 ≡ size = omega arith in z)

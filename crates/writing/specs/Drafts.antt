@@ -1,9 +1,7 @@
 -- How far writing has come: what the contracts of the writers of lines cite.
-use Rattle.std.specs.Prelude.{ℕ, ◌+◌, ◌*◌, ◌≤◌, ◌≡◌, List, [], ◌∷◌, ◌++◌, length, take, drop}
+use Rattle.std.specs.Prelude.{ℕ, ◌+◌, ◌*◌, ◌≤◌, ◌<◌, ◌≡◌, List, ◌++◌, length, take, drop}
 use Rattle.common.specs.Limits.{most_lines}
-use Rattle.common.specs.Lists.{at}
 use Rattle.octets.specs.Line.{framed, text_of, totals}
-use Rattle.octets.specs.Number.{in_octets}
 use Rattle.writing.specs.declared.Draft.{Draft}
 
 -- the longest body is a method's: form and privileges
@@ -28,21 +26,19 @@ pub record Put (before after : List ℕ) (d e : Draft) (ls : List (List ℕ)) : 
   pub sum : e.sum ≡ d.sum + totals ls
   pub fair : totals ls ≤ greatest_total * length ls
 
--- ---- the line of row i of a table with these columns
+-- so many lines of so many bytes each were written
+pub record Grown (before after : List ℕ) (d e : Draft) (count size : ℕ) : Type 0 where
+  pub offset : e.offset ≡ d.offset + count * size
+  pub lines : e.lines ≡ d.lines + count
+  pub fair : e.sum ≤ greatest_total * e.lines
+  pub long : length after ≡ length before
 
-abbrev pub pair_line : ℕ → List ℕ → List ℕ → ℕ → List ℕ
-pair_line kind a b i = framed kind (at a i ∷ at b i ∷ [])
+-- ---- the lines of a table
 
-abbrev pub triple_line : ℕ → List ℕ → List ℕ → List ℕ → ℕ → List ℕ
-triple_line kind a b c i = framed kind (at a i ∷ at b i ∷ at c i ∷ [])
+-- what a closure gives for each row below a count has these octets
+abbrev pub Gives : {B : Type 0} → (B → List ℕ) → (ℕ → B → Type 0) → ℕ → (ℕ → List ℕ) → Type 0
+Gives octets post count bodies = (i : ℕ) (b : _) → i < count → post i b → octets b ≡ bodies i
 
--- a number of 2 octets after one of 1: object, roles
-abbrev pub user_line : ℕ → List ℕ → List ℕ → ℕ → List ℕ
-user_line kind a b i = framed kind (at a i ∷ in_octets 2 (at b i))
-
--- a number of 8 octets: privileges; and after one of 1: form, privileges
-abbrev pub demarcation_line : ℕ → List ℕ → ℕ → List ℕ
-demarcation_line kind a i = framed kind (in_octets 8 (at a i))
-
-abbrev pub method_line : ℕ → List ℕ → List ℕ → ℕ → List ℕ
-method_line kind a b i = framed kind (at a i ∷ in_octets 8 (at b i))
+-- the line of row i, with its body
+abbrev pub lines_of : ℕ → (ℕ → List ℕ) → ℕ → List ℕ
+lines_of kind bodies i = framed kind (bodies i)

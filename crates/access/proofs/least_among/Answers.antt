@@ -1,11 +1,12 @@
 -- `least_among` meets its contract: the masks are the record's, but for who is allowed.
 use Rattle.std.proofs.Common.{refl}
 use Rattle.justification.proofs.MaskLaws.{least_masked}
+use Rattle.access.proofs.Choosing.{least_found}
 use Rattle.access.proofs.least_among.Goals as goal
 
 pub returns : goal.returns
 returns c =
-    λ r m a k. least_masked r m c.args.allowed _ (record {
+    λ r m a k. least_found _ _ (least_masked r m c.args.allowed _ (record {
       few = k.few;
       count = k.count;
       permitted = refl;
@@ -17,4 +18,4 @@ returns c =
       every = k.every;
       wanted = k.wanted;
       bounded = k.bounded;
-    }) c.least.ensures
+    }) c.least.ensures)

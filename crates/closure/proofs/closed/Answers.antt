@@ -32,4 +32,4 @@ loop-k-preserved c =
     }
 
 pub returns : goal.returns
-returns c = rw (← c.at_most-n.ensures) (through_all c.loop-k.invariant.closed (omega arith))
+returns c = rw (← c.min-n.ensures) (through_all c.loop-k.invariant.closed (omega arith))

@@ -11,8 +11,8 @@ loop-e-init c = relating_none _ _
 
 pub loop-e-preserved : goal.loop-e-preserved
 loop-e-preserved c =
-    let a = c.index-a.ensures in
-    let b = c.index-b.ensures in
+    let a = c.from-a.ensures in
+    let b = c.from-b.ensures in
     elim c.if-a-lt-MOST_RELATED.branch [
       | then-a-lt-MOST_RELATED+then-b-lt-MOST_RELATED w ↦ rw w.m-is (relating_put c.loop-e.invariant a b (omega arith) (omega arith))
       | else-a-lt-MOST_RELATED w ↦ rw w.m-is (relating_over c.loop-e.invariant (elim w.else-a-lt-MOST_RELATED.branch [

@@ -1,10 +1,9 @@
 -- Evaluation at one vertex and on sets: its functions call each other, the formula number falling. The measures are 2n for `true_at` and
 -- `evaluate` below n, 2f + 1 for the functions of the ops at formula f.
-use Rattle.std.proofs.Common.{◌≡◌, ◌&&◌, ◌+◌, ◌-◌, ◌*◌, ◌≤◌, length}
-use Rattle.vertices.specs.Steps.{is_in}
-use Rattle.vertices.proofs.VertexSets.{FilledTo}
-use Rattle.formula.specs.Formula.{keep, true_below}
-use Rattle.formula.specs.Evaluation.{formulas_in, context_in}
+use Rattle.std.proofs.Common.{◌+◌, ◌*◌}
+use Rattle.formula.specs.Formula.{keep, true_below, formulas_of}
+use Rattle.formula.specs.Evaluation.{context_in}
+use Rattle.evaluation.proofs.Recursion.{EachBelow}
 use Rattle.evaluation.proofs.+at_slot_connected_at_connective_evaluate_keep_each_scan_edges_step_at_true_at.Given as goal
 
 abbrev pub decreases-at_slot : goal.decreases-at_slot
@@ -31,12 +30,7 @@ decreases-step_at l = 2 * l.f + 1
 abbrev pub decreases-true_at : goal.decreases-true_at
 decreases-true_at l = 2 * l.n
 
--- the vertices below i are answered
-abbrev pub invariant-keep_each-loop-i : goal.invariant-keep_each-loop-i
-invariant-keep_each-loop-i l =
-    FilledTo (λ v. is_in l.each v && true_below (formulas_in l.ops l.lefts l.rights) (keep (context_in l.q l.labels l.from l.to) l.a v) l.f l.right v)
-    l.r l.i
-    × (length l.r ≡ 256) × (l.i ≤ 256)
-
-abbrev pub decreases-keep_each-loop-i : goal.decreases-keep_each-loop-i
-decreases-keep_each-loop-i l = 256 - l.i
+-- the vertices below v are answered
+abbrev pub invariant-keep_each-loop-v : goal.invariant-keep_each-loop-v
+invariant-keep_each-loop-v l =
+    EachBelow l.asked (λ u. true_below (formulas_of l.rules) (keep (context_in l.rules l.q) l.line.left u) l.f l.right u) l.r l.v

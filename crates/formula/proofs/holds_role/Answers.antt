@@ -1,11 +1,7 @@
 -- `holds_role` meets its contract: a number of 16 bits has no bit at 16 or above.
-use Rattle.std.proofs.Common.{◌≡◌, ◌/◌, ◌^◌}
-use native.Mathlib.Nat.{div-eq_of_lt, lt_of_lt_of_le}
-use lib.Pow.{pow_mono}
+use Rattle.std.proofs.Common.{ℕ, ap, ◌∙◌, eqb, ◌%◌, arith}
+use Rattle.formula.proofs.RequestorRoles.{halved}
 use Rattle.formula.proofs.holds_role.Goals as goal
 
-pub returns-then-a-gt-HIGHEST_ROLE : goal.returns-then-a-gt-HIGHEST_ROLE
-returns-then-a-gt-HIGHEST_ROLE c =
-    let h : c.args.roles / 2 ^ c.args.a ≡ 0 = div-eq_of_lt
-    (lt_of_lt_of_le c.ranges.roles.fits (pow_mono c.if-a-gt-HIGHEST_ROLE.true)) in
-    rw h
+pub returns : goal.returns
+returns c = ap (λ (n : ℕ). eqb (n % 2) 1) (c.unbounded_shr.ensures ∙ rw c.from.ensures (halved c.args.roles c.args.a (omega arith)))

@@ -1,62 +1,48 @@
 -- `finish` meets its contract: each way out is a law of `Ends`.
-use Rattle.std.proofs.Common.{ℕ, ◌+◌, ◌≤◌, List, ◌≡◌, sym, ◌∙◌, drop, replicate, arith}
-use Rattle.common.specs.Limits.{line_room}
-use Rattle.octets.specs.Line.{frame}
-use Rattle.octets.specs.Answers.{HoldsLine}
-use Rattle.lines.specs.NextLine.{number_at}
-use Rattle.lines.proofs.FoundLine.{FoundLine, found_line, found_number}
-use Rattle.loading.proofs.Ends.{finish_refused, finish_missing, finish_other, finish_unread, finish_count, finish_sum, finish_ended}
+use Rattle.std.proofs.Common.{◌≡◌, sym, ◌∙◌, rules}
+use Rattle.std.proofs.lemmas.Result.{err_from_is_err_and}
+use Rattle.lines.proofs.FoundLine.{found_line}
+use Rattle.common.specs.declared.Refusal.TheVariants.{WrongKind, WrongEnd}
+use Rattle.reading.specs.Stages.{refused_at}
+use Rattle.reading.proofs.Mapped.{mapped_ok, mapped_err}
+use Rattle.loading.proofs.Ends.{finish_missing, finish_other, finish_unread, finish_count, finish_sum, finish_ended}
 use Rattle.loading.proofs.finish.Goals as goal
+use Rattle.loading.proofs.finish.Goals.{then-count-cursor-via-then-count-cursor, then-count-cursor-via-else-count-cursor+then-sum-cursor}
 
--- a number of the end line that was found, of its octets in the room
-end_number : {text : List ℕ} {offset next sum : ℕ} (f : FoundLine text offset 0xFF 9 next sum) {after : List ℕ}
-    → HoldsLine 9 (frame (drop offset text)) (replicate line_room 0) after
-    → (k n : ℕ) → k + n ≤ 9 → number_at after k n ≡ number_at f.os k n
-end_number f h k n l = found_number f (replicate line_room 0) h k n l
-
-pub returns-then-cursor-ne0 : goal.returns-then-cursor-ne0
-returns-then-cursor-ne0 c = c.not_loaded.ensures ∙ finish_refused _ _ c.if-cursor-ne0.true
-
-pub returns-then-text-offset : goal.returns-then-text-offset
-returns-then-text-offset c =
-    let z = c.if-cursor-ne0.false in
-    c.not_loaded-then-text-offset.ensures ∙ finish_missing _ _ z (c.requires z) c.if-text-offset.true
+pub returns : goal.returns
+returns c =
+    let q = mapped_ok _ c.next_line.result c.map_err.ensures.cases c.in_ok-last.was in
+    let f = found_line _ _ 0xFF 9 (sym (rw (q, c.in-Some.is) at c.next_line.ensures)) in
+    rw c.reader.view_is at c.ended.ensures
+    ∙ finish_ended _ _ c.requires f c.number_at-count.ensures c.if-count-cursor.false c.number_at-sum.ensures
+    c.if-sum-cursor.false
 
 pub returns-then-count-cursor : goal.returns-then-count-cursor
 returns-then-count-cursor c =
-    let z = c.if-cursor-ne0.false in
-    let f = found_line _ _ 0xFF 9 (sym c.in-Body.ensures.line) in
-    c.not_loaded-then-count-cursor.ensures
-    ∙ finish_count _ _ z (c.requires z) f
-    (c.number_at-count.ensures ∙ end_number f c.next_line.ensures.octets 2 2 (omega arith))
-    c.if-count-cursor.true
+    let q = mapped_ok _ c.next_line.result c.map_err.ensures.cases c.in_ok-last.was in
+    let f = found_line _ _ 0xFF 9 (sym (rw (q, c.in-Some.is) at c.next_line.ensures)) in
+    let same : c.bad-then-count-cursor.result ≡ refused_at c.args.from.cursor WrongEnd = search rules in
+    rw same (elim c.then-count-cursor.branch [
+      | then-count-cursor-via-then-count-cursor w ↦ finish_count _ _ c.requires f c.number_at-count.ensures w.if-count-cursor.true
+      | then-count-cursor-via-else-count-cursor+then-sum-cursor w ↦ finish_sum _ _ c.requires f c.number_at-sum.ensures w.if-sum-cursor.true
+    ])
 
-pub returns-then-sum-cursor : goal.returns-then-sum-cursor
-returns-then-sum-cursor c =
-    let z = c.if-cursor-ne0.false in
-    let f = found_line _ _ 0xFF 9 (sym c.in-Body.ensures.line) in
-    c.not_loaded-then-sum-cursor.ensures
-    ∙ finish_sum _ _ z (c.requires z) f
-    (c.number_at-sum.ensures ∙ end_number f c.next_line.ensures.octets 4 4 (omega arith))
-    c.if-sum-cursor.true
+pub returns-then-reader-cursor : goal.returns-then-reader-cursor
+returns-then-reader-cursor c =
+    let same : c.bad.result ≡ refused_at c.args.from.cursor WrongEnd = search rules in
+    rw same (finish_missing _ _ c.requires (rw c.reader.view_is at c.if-reader-cursor.true))
 
-pub returns-in-Other : goal.returns-in-Other
-returns-in-Other c =
-    let z = c.if-cursor-ne0.false in
-    c.not_loaded-in-Other.ensures ∙ finish_other _ _ z (c.requires z) c.if-text-offset.false (sym c.in-Other.ensures.line)
+pub returns-in_err-last : goal.returns-in_err-last
+returns-in_err-last c =
+    let p = err_from_is_err_and c.from_residual.result c.from_residual.ensures.1 in
+    let (why, q, bad) = mapped_err _ c.next_line.result c.map_err.ensures.cases c.in_err-last.was in
+    let same : c.in_err-last.field-0.0 ≡ refused_at c.args.from.cursor why = search rules in
+    rw (p.1, p.2, same) (finish_unread _ _ c.requires _ (sym (rw q at c.next_line.ensures)))
 
-pub returns-in-Refused : goal.returns-in-Refused
-returns-in-Refused c =
-    let z = c.if-cursor-ne0.false in
-    c.not_loaded-in-Refused.ensures ∙ finish_unread _ _ z (c.requires z) _ (sym c.in-Refused.ensures.line)
-
-pub returns-else-sum-cursor : goal.returns-else-sum-cursor
-returns-else-sum-cursor c =
-    let z = c.if-cursor-ne0.false in
-    let f = found_line _ _ 0xFF 9 (sym c.in-Body.ensures.line) in
-    c.ended.ensures
-    ∙ finish_ended _ _ z (c.requires z) f
-    (c.number_at-count.ensures ∙ end_number f c.next_line.ensures.octets 2 2 (omega arith))
-    c.if-count-cursor.false
-    (c.number_at-sum.ensures ∙ end_number f c.next_line.ensures.octets 4 4 (omega arith))
-    c.if-sum-cursor.false
+pub returns-in_default : goal.returns-in_default
+returns-in_default c =
+    let q = mapped_ok _ c.next_line.result c.map_err.ensures.cases c.in_ok-last.was in
+    let same : c.bad-in_default.result ≡ refused_at c.args.from.cursor WrongKind = search rules in
+    rw same
+    (finish_other _ _ c.requires (rw c.reader.view_is at c.if-reader-cursor.false)
+    (sym (rw (q, c.in_default.is) at c.next_line.ensures)))

@@ -5,4 +5,4 @@ use Rattle.policy.proofs.blank.Goals as goal
 
 pub returns : goal.returns
 unfolding blank with_memo with_index
-returns c = λ j. table.with_memo (table.with_index table.blank (c.no_index-index.ensures j)) (c.emptied-memo.ensures j)
+returns c = λ j. table.with_memo (table.with_index table.blank (c.no_index.ensures j)) (c.emptied.ensures j)

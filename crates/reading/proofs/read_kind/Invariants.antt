@@ -1,12 +1,11 @@
 -- What the loop of `read_kind` keeps, for any kind: so many of the kind's lines have been taken.
 use Rattle.std.proofs.Common.{◌-◌, length}
-use Rattle.reading.proofs.Partway.{stage}
+use Rattle.lines.specs.Judging.{table_of}
 use Rattle.reading.proofs.TakenLines.{TakenLines}
 use Rattle.reading.proofs.read_kind.Given as goal
 
-abbrev pub invariant-loop-rules : goal.invariant-loop-rules
-invariant-loop-rules l =
-    TakenLines l.text l.kind (stage l.initial.cursor l.initial.rules) l.cursor l.rules l.count l.least_key l.heights
+abbrev pub invariant-loop-taken : goal.invariant-loop-taken
+invariant-loop-taken l = TakenLines l.reader (table_of l.kind) l.fn.from l.cursor l.rules l.row l.least_key l.heights
 
-abbrev pub decreases-loop-rules : goal.decreases-loop-rules
-decreases-loop-rules l = length l.text - l.cursor.offset
+abbrev pub decreases-loop-taken : goal.decreases-loop-taken
+decreases-loop-taken l = length l.reader - l.cursor.offset

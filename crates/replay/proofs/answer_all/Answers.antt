@@ -1,49 +1,28 @@
 -- `answer_all` meets its contract.
-use Rattle.std.proofs.Common.{◌∙◌, ap}
-use Rattle.policy.specs.Table.{with_memo}
-use Rattle.policy.specs.declared.Edited.{Edited}
-use Rattle.access.specs.Access.{leaves}
-use Rattle.replay.specs.declared.CallFields.{CallFields}
-use Rattle.replay.specs.Replay.{listed_call_of, answer_to, edit_answer}
-use Rattle.replay.specs.AnswerLaws.{whole_fit}
-use Rattle.replay.proofs.AnswerCases.{answer_case}
-use Rattle.replay.proofs.Replaying.{replaying_start, replaying_on, replaying_end, replaying_left}
+use Rattle.std.proofs.Common.{◌≡◌, ◌<◌, ◌/◌, length, ◌∙◌, arith, length-take-le}
+use Rattle.replay.specs.Replay.{call_octets, listed_call_at}
+use Rattle.replay.specs.CallValues.{call_values, reply_values}
+use Rattle.replay.proofs.Listed.{listed_at}
+use Rattle.replay.proofs.Replaying.{replaying_start, replaying_more, replaying_end}
 use Rattle.replay.proofs.answer_all.Goals as goal
 
 pub loop-i-init : goal.loop-i-init
-loop-i-init c = (replaying_start _ _ _ _, c.loadable-loads.ensures.decides)
-
-pub loop-i-preserved-in-0 : goal.loop-i-preserved-in-0
-unfolding answer_to
-loop-i-preserved-in-0 c =
-    replaying_on c.loop-i.invariant.0 (whole_fit _ _ _ c.answerable-n.ensures).1 (edit_answer _) c.loop-i-test.true c.loop-i.invariant.1
-    (answer_case _ _ 0 c.in-0.is (ap (λ (e : Edited). edit_answer e) c.add_edge_given-rules.ensures)
-    ∙ ap (λ (f : CallFields). answer_to c.loop-i.rules (listed_call_of f)) c.call_at-call.ensures)
-    c.put_answer.ensures
-
-pub loop-i-preserved-in-1 : goal.loop-i-preserved-in-1
-unfolding answer_to
-loop-i-preserved-in-1 c =
-    replaying_on c.loop-i.invariant.0 (whole_fit _ _ _ c.answerable-n.ensures).1 (edit_answer _) c.loop-i-test.true c.loop-i.invariant.1
-    (answer_case _ _ 1 c.in-1.is (ap (λ (e : Edited). edit_answer e) c.remove_edge_given-rules.ensures)
-    ∙ ap (λ (f : CallFields). answer_to c.loop-i.rules (listed_call_of f)) c.call_at-call.ensures)
-    c.put_answer-in-1.ensures
+loop-i-init c = replaying_start _ _ _ _ c.loadable-loads.ensures.decides
 
 pub loop-i-preserved : goal.loop-i-preserved
-unfolding with_memo
 loop-i-preserved c =
-    replaying_on c.loop-i.invariant.0 (whole_fit _ _ _ c.answerable-n.ensures).1 (leaves c.loop-i.rules c.decision_of-d.result)
-    c.loop-i-test.true c.loop-i.invariant.1
-    (c.decision_of-d.ensures ∙ ap (λ (f : CallFields). answer_to c.loop-i.rules (listed_call_of f)) c.call_at-call.ensures)
-    c.put_answer-in_default.ensures
+    let listed = c.as_chunks.result.0.now in
+    let count = c.min-count.result in
+    let whole : length listed ≡ length c.args.calls.now / call_octets = c.as_chunks.ensures.front_len in
+    let few : c.loop-i.i < count = omega (arith, length-take-le count listed) in
+    let call : call_values c.from.result ≡ listed_call_at c.args.calls.now c.loop-i.i =
+    c.from.ensures ∙ listed_at c.args.calls.now _ count c.loop-i.i c.as_chunks.ensures.front few (omega arith) in
+    replaying_more c.loop-i.invariant (reply_values c.answer_given-reply.result c.answer_given-reply.new.rules) (omega arith)
+    (omega arith) call c.answer_given-reply.ensures
+    (c.copy_from_slice.ensures.after ∙ c.octets.ensures c.answer_given-reply.new.rules)
 
-pub returns : goal.returns
-returns c =
-    let fit = (whole_fit _ _ _ c.answerable-n.ensures).1 in (
-      λ i. record {
-        count = c.answerable-n.ensures i;
-        rules = replaying_left c.loop-i.invariant.0 fit c.loop-i-test.false c.answerable-n.ensures i;
-      },
-      replaying_end c.loop-i.invariant.0 fit c.loop-i-test.false c.answerable-n.ensures,
-      c.loadable-loads.ensures.typed,
-    )
+pub returns-clause-buffer : goal.returns-clause-buffer
+returns-clause-buffer c =
+    let listed = c.as_chunks.result.0.now in
+    let whole : length listed ≡ length c.args.calls.now / call_octets = c.as_chunks.ensures.front_len in
+    replaying_end c.loop-i.invariant (omega (arith, length-take-le c.min-count.result listed))

@@ -1,18 +1,11 @@
--- `answer_given` meets its contract.
-use Rattle.std.proofs.Common.{◌∙◌, ap}
-use Rattle.policy.specs.declared.Edited.{Edited}
-use Rattle.replay.specs.Replay.{answer_to, edit_answer}
-use Rattle.replay.proofs.AnswerCases.{answer_case}
+-- `answer_given` meets its contract. Where no bundle loads to the record, what a call asks of rules comes to 19 by its definition.
+use Rattle.std.proofs.Common.{rules}
+use Rattle.justification.specs.Predicates.{question_refusal, liberal, strict}
+use Rattle.access.specs.Access.{eager, lazy}
+use Rattle.tickets.specs.Tickets.{ticket_refusal}
+use Rattle.replay.specs.Replay.{answer_to}
 use Rattle.replay.proofs.answer_given.Goals as goal
 
-pub returns-in-0 : goal.returns-in-0
-unfolding answer_to
-returns-in-0 c =
-    answer_case c.args.rules c.args.call 0 c.in-0.is
-    (c.edit_answer.ensures ∙ ap (λ (e : Edited). edit_answer e) c.add_edge_given-left.ensures)
-
-pub returns-in-1 : goal.returns-in-1
-unfolding answer_to
-returns-in-1 c =
-    answer_case c.args.rules c.args.call 1 c.in-1.is
-    (c.edit_answer-in-1.ensures ∙ ap (λ (e : Edited). edit_answer e) c.remove_edge_given-left.ensures)
+pub returns-in_default : goal.returns-in_default
+unfolding answer_to eager lazy liberal strict question_refusal ticket_refusal
+returns-in_default c = search rules

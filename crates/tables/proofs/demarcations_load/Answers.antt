@@ -1,18 +1,19 @@
--- `demarcations_load` meets its contract: more lines than there is room for, or the unused places tested.
-use Rattle.std.proofs.Common.{refl}
+-- `demarcations_load` meets its contract: as many lines as there is room for are taken, and the unused places are zero or not.
+use Rattle.std.proofs.Common.{◌∙◌}
+use borrow.Author.Tests.{lt-leb}
 use Rattle.common.specs.Limits.{most_demarcations}
 use Rattle.tables.specs.Loads.{demarcations_load}
-use Rattle.tables.proofs.Zero.{zeros_one}
-use Rattle.tables.proofs.Lines.{lines_over, lines_all, plain_taken}
+use Rattle.tables.proofs.Lines.{few, lines_over, lines_one, plain_taken}
 use Rattle.tables.proofs.demarcations_load.Goals as goal
 
-pub returns-then-count-gt-MOST_DEMARCATIONS : goal.returns-then-count-gt-MOST_DEMARCATIONS
+pub returns-then-count-le-MOST_DEMARCATIONS : goal.returns-then-count-le-MOST_DEMARCATIONS
 unfolding demarcations_load
-returns-then-count-gt-MOST_DEMARCATIONS c = lines_over _ _ _ c.if-count-gt-MOST_DEMARCATIONS.true
+returns-then-count-le-MOST_DEMARCATIONS c =
+    let h = c.if-count-le-MOST_DEMARCATIONS.true in
+    lines_one _ _ _ (few h (plain_taken most_demarcations c.args.count h)) c.args.privileges.now c.filled_from.ensures
 
-pub returns : goal.returns
+pub returns-else-count-le-MOST_DEMARCATIONS : goal.returns-else-count-le-MOST_DEMARCATIONS
 unfolding demarcations_load
-returns c =
-    let h = c.if-count-gt-MOST_DEMARCATIONS.false in
-    lines_all _ _ _ h (plain_taken most_demarcations c.args.count h) refl
-    (zeros_one c.args.count c.args.privileges.now c.zero_from_u64.ensures)
+returns-else-count-le-MOST_DEMARCATIONS c =
+    let h = c.if-count-le-MOST_DEMARCATIONS.false in
+    lt-leb c.args.count most_demarcations h ∙ lines_over _ _ _ h

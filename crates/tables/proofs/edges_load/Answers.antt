@@ -1,20 +1,13 @@
--- `edges_load` meets its contract: a line more, more lines than there is room for, and all lines gone through.
-use Rattle.std.proofs.Common.{arith}
-use Rattle.tables.specs.Loads.{edges_load}
-use Rattle.tables.proofs.Zero.{zeros_three}
-use Rattle.tables.proofs.Lines.{rising_more, lines_over, lines_all}
+-- `edges_load` meets its contract: each line is taken or not, and the unused places are zero or not.
+use Rattle.std.proofs.Common.{rules, leb}
+use Rattle.common.specs.Limits.{most_edges}
+use Rattle.tables.specs.Loads.{edges_load, edge_fits, edge_keys}
+use Rattle.tables.proofs.Lines.{taken, done, lines_three}
 use Rattle.tables.proofs.edges_load.Goals as goal
-
-pub returns-then-count-gt-MOST_EDGES : goal.returns-then-count-gt-MOST_EDGES
-unfolding edges_load
-returns-then-count-gt-MOST_EDGES c = lines_over _ _ _ c.if-count-gt-MOST_EDGES.true
-
-pub loop-i-preserved : goal.loop-i-preserved
-loop-i-preserved c =
-    record { rising = rising_more c.loop-i.invariant.rising c.edge_refusal.ensures c.after_edge-minimum.ensures; within = omega arith }
 
 pub returns : goal.returns
 unfolding edges_load
 returns c =
-    lines_all _ _ _ c.if-count-gt-MOST_EDGES.false c.loop-i.invariant.rising.accepted (omega arith)
-    (zeros_three c.args.count c.args.labels.now c.args.sources.now c.args.targets.now c.zero_from-labels_end.ensures c.zero_from-sources_end.ensures c.zero_from-targets_end.ensures)
+    let key = edge_keys c.args.labels.now c.args.sources.now c.args.targets.now in
+    let fit = c.all_rise-fit.ensures (taken (leb most_edges) (edge_fits c.args.objects c.args.labels.now c.args.sources.now c.args.targets.now) key) key (λ i m r l p. search (rules, done)) (λ i k l p. search rules) in
+    lines_three _ _ _ fit c.args.labels.now c.args.sources.now c.args.targets.now c.filled_from.ensures c.filled_from-2.ensures c.filled_from-3.ensures

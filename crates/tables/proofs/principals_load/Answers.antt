@@ -1,16 +1,12 @@
--- `principals_load` meets its contract: more lines than there is room for, and all lines gone through.
-use Rattle.std.proofs.Common.{arith}
-use Rattle.tables.specs.Loads.{principals_load}
-use Rattle.tables.proofs.Zero.{zeros_two}
-use Rattle.tables.proofs.Lines.{lines_over, lines_all}
+-- `principals_load` meets its contract: each line is taken or not, and the unused places are zero or not.
+use Rattle.std.proofs.Common.{rules, eqb}
+use Rattle.common.specs.Limits.{most_principals}
+use Rattle.tables.specs.Loads.{principals_load, plain_refusal, principal_fits}
+use Rattle.tables.proofs.Lines.{done, lines_two}
 use Rattle.tables.proofs.principals_load.Goals as goal
-
-pub returns-then-count-gt-MOST_PRINCIPALS : goal.returns-then-count-gt-MOST_PRINCIPALS
-unfolding principals_load
-returns-then-count-gt-MOST_PRINCIPALS c = lines_over _ _ _ c.if-count-gt-MOST_PRINCIPALS.true
 
 pub returns : goal.returns
 unfolding principals_load
 returns c =
-    lines_all _ _ _ c.if-count-gt-MOST_PRINCIPALS.false c.loop-i.invariant.accepted (omega arith)
-    (zeros_two c.args.count c.args.grounds.now c.args.ranks.now c.zero_from-grounds_end.ensures c.zero_from-ranks_end.ensures)
+    let fit = c.all_fit-fit.ensures (λ i. eqb (plain_refusal most_principals (principal_fits c.args.formulas c.args.demarcations c.args.grounds.now c.args.ranks.now) i) 0) (λ i r l p. search (rules, done)) in
+    lines_two _ _ _ fit c.args.grounds.now c.args.ranks.now c.filled_from.ensures c.filled_from-2.ensures

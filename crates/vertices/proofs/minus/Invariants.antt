@@ -1,10 +1,7 @@
--- The loop of `minus`: the first i entries are made, and the measure.
-use Rattle.std.proofs.Common.{ℕ, ◌-◌, ◌<◌, ◌≤◌, ◌≡◌, not, ◌&&◌, length}
+-- The loop of `minus`: the first v entries are made.
+use Rattle.std.proofs.Common.{ℕ, ◌<◌, ◌≡◌, not, ◌&&◌, length}
 use Rattle.vertices.specs.Steps.{is_in}
 use Rattle.vertices.proofs.minus.Given as goal
 
-abbrev pub invariant-loop-i : goal.invariant-loop-i
-invariant-loop-i l = ((v : ℕ) → v < l.i → is_in l.r v ≡ (is_in l.asked v && not (is_in l.t v))) × (length l.r ≡ 256) × (l.i ≤ 256)
-
-abbrev pub decreases-loop-i : goal.decreases-loop-i
-decreases-loop-i l = 256 - l.i
+abbrev pub invariant-loop-v : goal.invariant-loop-v
+invariant-loop-v l = ((w : ℕ) → w < l.v → is_in l.r w ≡ (is_in l.asked w && not (is_in l.t w))) × (length l.r ≡ 256)

@@ -1,7 +1,6 @@
 -- `none` meets its contract: every entry of the table is false.
-use Rattle.std.proofs.Common.{refl}
 use Rattle.vertices.proofs.VertexSets.{all_false}
 use Rattle.vertices.proofs.none.Goals as goal
 
-pub returns : goal.returns
-returns c = (refl, all_false 256)
+pub returns-clause-empty : goal.returns-clause-empty
+returns-clause-empty c = all_false 256

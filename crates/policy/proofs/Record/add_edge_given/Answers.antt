@@ -1,59 +1,51 @@
 -- `add_edge_given` meets its contract.
-use Rattle.std.proofs.Common.{sym, ◌∙◌}
-use Rattle.policy.proofs.Fields.{owned_columns}
-use Rattle.policy.proofs.Answers.{lengths_of, loadable_ordered, placed_as, adds_at, add_refused, add_row, add_indexes, add_accepted}
+use Rattle.std.proofs.Common.{◌<◌, arith, rules}
+use Rattle.std.proofs.lemmas.Result.{err_from_is_err_and}
+use Rattle.common.specs.Limits.{most_edges}
+use Rattle.policy.proofs.Answers.{EdgeColumnLengths, add_refused, add_present, add_full, add_row, add_indexes, add_accepted}
 use Rattle.policy.proofs.Record.add_edge_given.Goals as goal
 
-pub edge_place-place-requires : goal.edge_place-place-requires
-edge_place-place-requires c = λ e. loadable_ordered c.args.self (sym c.requires ∙ e)
+pub returns-in_err-row : goal.returns-in_err-row
+returns-in_err-row c =
+    let a = c.args in
+    let e = err_from_is_err_and c.from_residual.result c.from_residual.ensures.1 in
+    rw (e.1, e.2) (add_refused a.self.now a.label a.source a.target c.in_err-row.ensures)
+
+pub returns-in_default : goal.returns-in_default
+returns-in_default c =
+    let a = c.args in add_present a.self.now a.label a.source a.target (rw c.in_default.is at c.in_ok-row.ensures)
+
+pub returns-then-count-ge-MOST_EDGES : goal.returns-then-count-ge-MOST_EDGES
+returns-then-count-ge-MOST_EDGES c =
+    let a = c.args in
+    add_full a.self.now a.label a.source a.target (rw c.in-Absent.is at c.in_ok-row.ensures) c.if-count-ge-MOST_EDGES.true
 
 pub insert-requires : goal.insert-requires
 insert-requires c =
     let a = c.args in
-    let p = placed_as a.self a.label a.source a.target c.requires c.edge_place-place.ensures in
-    let n = c.add_refusal-refusal.ensures ∙ adds_at a.self a.label a.source a.target p in
-    let h = add_row a.self a.label a.source a.target p n c.if-refusal-eq-ACCEPTED.true in
-    (h.0, h.1, (lengths_of a.self (owned_columns a.self c.well_formed.0.0 c.well_formed.0.1.1)).labels)
+    let room : a.self.now.edge_count < most_edges = omega (arith, c.if-count-ge-MOST_EDGES.false) in
+    (add_row a.self.now a.label a.source a.target (rw c.in-Absent.is at c.in_ok-row.ensures) room, room, search rules)
 
-pub insert-requires-then-refusal-eq-ACCEPTED : goal.insert-requires-then-refusal-eq-ACCEPTED
-insert-requires-then-refusal-eq-ACCEPTED c =
+pub invariant_of-edges : goal.invariant_of-edges
+invariant_of-edges c =
     let a = c.args in
-    let p = placed_as a.self a.label a.source a.target c.requires c.edge_place-place.ensures in
-    let n = c.add_refusal-refusal.ensures ∙ adds_at a.self a.label a.source a.target p in
-    let h = add_row a.self a.label a.source a.target p n c.if-refusal-eq-ACCEPTED.true in
-    (h.0, h.1, (lengths_of a.self (owned_columns a.self c.well_formed.0.0 c.well_formed.0.1.1)).sources)
+    let lengths : EdgeColumnLengths a.self.now = record { labels = search rules; sources = search rules; targets = search rules } in
+    (add_indexes a.self.now a.label a.source a.target (rw c.in-Absent.is at c.in_ok-row.ensures)
+    (omega (arith, c.if-count-ge-MOST_EDGES.false)) lengths c.insert.ensures c.insert-2.ensures c.insert-3.ensures).0
 
-pub insert-requires-then-refusal-eq-ACCEPTED-2 : goal.insert-requires-then-refusal-eq-ACCEPTED-2
-insert-requires-then-refusal-eq-ACCEPTED-2 c =
+pub with_edge-requires : goal.with_edge-requires
+with_edge-requires c =
     let a = c.args in
-    let p = placed_as a.self a.label a.source a.target c.requires c.edge_place-place.ensures in
-    let n = c.add_refusal-refusal.ensures ∙ adds_at a.self a.label a.source a.target p in
-    let h = add_row a.self a.label a.source a.target p n c.if-refusal-eq-ACCEPTED.true in
-    (h.0, h.1, (lengths_of a.self (owned_columns a.self c.well_formed.0.0 c.well_formed.0.1.1)).targets)
+    let p = rw c.in-Absent.is at c.in_ok-row.ensures in
+    let room : a.self.now.edge_count < most_edges = omega (arith, c.if-count-ge-MOST_EDGES.false) in
+    let lengths : EdgeColumnLengths a.self.now = record { labels = search rules; sources = search rules; targets = search rules } in (
+      omega (arith, add_row a.self.now a.label a.source a.target p room),
+      (add_indexes a.self.now a.label a.source a.target p room lengths c.insert.ensures c.insert-2.ensures c.insert-3.ensures).1,
+    )
 
-pub with_edge-next-requires : goal.with_edge-next-requires
-with_edge-next-requires c =
+pub returns : goal.returns
+returns c =
     let a = c.args in
-    let p = placed_as a.self a.label a.source a.target c.requires c.edge_place-place.ensures in
-    let n = c.add_refusal-refusal.ensures ∙ adds_at a.self a.label a.source a.target p in
-    let lengths = lengths_of a.self (owned_columns a.self c.well_formed.0.0 c.well_formed.0.1.1) in
-    let h = add_row a.self a.label a.source a.target p n c.if-refusal-eq-ACCEPTED.true in
-    let i = add_indexes a.self a.label a.source a.target p lengths n c.if-refusal-eq-ACCEPTED.true
-    c.insert.ensures c.insert-then-refusal-eq-ACCEPTED.ensures c.insert-then-refusal-eq-ACCEPTED-2.ensures in
-    (h.0, i.0, i.1)
-
-pub returns-then-refusal-eq-ACCEPTED : goal.returns-then-refusal-eq-ACCEPTED
-returns-then-refusal-eq-ACCEPTED c =
-    let a = c.args in
-    let p = placed_as a.self a.label a.source a.target c.requires c.edge_place-place.ensures in
-    let n = c.add_refusal-refusal.ensures ∙ adds_at a.self a.label a.source a.target p in
-    let lengths = lengths_of a.self (owned_columns a.self c.well_formed.0.0 c.well_formed.0.1.1) in
-    add_accepted a.self a.label a.source a.target p lengths n c.if-refusal-eq-ACCEPTED.true
-    c.insert.ensures c.insert-then-refusal-eq-ACCEPTED.ensures c.insert-then-refusal-eq-ACCEPTED-2.ensures c.with_edge-next.ensures c.emptied-memo.ensures
-
-pub returns-else-refusal-eq-ACCEPTED : goal.returns-else-refusal-eq-ACCEPTED
-returns-else-refusal-eq-ACCEPTED c =
-    let a = c.args in
-    let p = placed_as a.self a.label a.source a.target c.requires c.edge_place-place.ensures in
-    let n = c.add_refusal-refusal.ensures ∙ adds_at a.self a.label a.source a.target p in
-    add_refused a.self a.label a.source a.target n c.if-refusal-eq-ACCEPTED.false
+    let lengths : EdgeColumnLengths a.self.now = record { labels = search rules; sources = search rules; targets = search rules } in
+    add_accepted a.self.now a.label a.source a.target (rw c.in-Absent.is at c.in_ok-row.ensures)
+    (omega (arith, c.if-count-ge-MOST_EDGES.false)) lengths c.insert.ensures c.insert-2.ensures c.insert-3.ensures c.with_edge.ensures c.emptied-self.ensures

@@ -1,6 +1,0 @@
--- `ask_eager_given` meets its contract.
-use Rattle.std.proofs.Common.{◌∙◌}
-use Rattle.access.proofs.ask_eager_given.Goals as goal
-
-pub returns : goal.returns
-returns c = c.answer_of.ensures ∙ c.decide_eagerly.ensures

@@ -1,5 +1,0 @@
--- `search::search` calls itself, n falling.
-use Rattle.search.proofs.+search.Given as goal
-
-abbrev pub decreases-search : goal.decreases-search
-decreases-search l = l.n

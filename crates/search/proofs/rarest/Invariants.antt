@@ -1,9 +1,0 @@
--- The loop's invariant: p is within the count; nothing is asked of the answer.
-use Rattle.std.proofs.Common.{◌-◌, ◌≤◌}
-use Rattle.search.proofs.rarest.Given as goal
-
-abbrev pub invariant-loop-p : goal.invariant-loop-p
-invariant-loop-p l = l.p ≤ l.count
-
-abbrev pub decreases-loop-p : goal.decreases-loop-p
-decreases-loop-p l = l.count - l.p
