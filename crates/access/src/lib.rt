@@ -13,7 +13,7 @@ ghost use Rattle.policy.specs.Typed.{Typed};
 ghost use Rattle.justification.specs.Justification as justifications;
 ghost use Rattle.justification.specs.Predicates.{question_refusal};
 ghost use Rattle.justification.specs.Masked.{Masked};
-ghost use Rattle.memo.specs.Memo.{truth_for};
+ghost use Rattle.memo.specs.Memo.{truth_in};
 ghost use Rattle.memo.specs.Walk as walks;
 ghost use Rattle.access.specs.declared.Decision as decisions;
 ghost use Rattle.access.specs.Access as access;
@@ -21,8 +21,10 @@ ghost use Rattle.access.specs.Answers.{answer_values, decision_values};
 ghost use Rattle.access.specs.Choices.{Puts, came_to, found, outcome_of};
 
 use common::Refusal;
+use evaluation::context::ObjectContext;
 use formula::request::Request;
 use justification::Question;
+use memo::principals::Principals;
 use policy::rules::Rules;
 use policy::{Memo, Record};
 use search::Masks;
@@ -146,8 +148,10 @@ fn choose_eagerly(rules: &Rules<'_>, question: Question) -> Result<Choice, Refus
     ensures { came_to rules.now result ≡ access.eager rules.now question }
 {
     let (request, masks, before) = put(rules, question)?;
-    let after = memo::evaluated_all(&request, before);
-    let enabled = memo::valued(&request, after);
+    let principals = Principals::of(&request);
+    let context = ObjectContext::of(&request);
+    let after = memo::evaluated_all(&principals, &context, before);
+    let enabled = memo::valued(&principals, after);
     Ok(Choice {
         set: least_among(masks, enabled),
         before,
@@ -178,21 +182,28 @@ fn choose_lazily(rules: &Rules<'_>, question: Question) -> Result<Choice, Refusa
     ensures { came_to rules.now result ≡ access.lazy rules.now question }
 {
     let (request, masks, before) = put(rules, question)?;
-    Ok(search_by(&request, masks, before))
+    let principals = Principals::of(&request);
+    let context = ObjectContext::of(&request);
+    Ok(search_by(&principals, &context, masks, before))
 }
 
 // At most one search more than there are principals, each among those not known false.
-fn search_by(request: &Request<'_>, masks: Masks, before: Memo) -> Choice
-    ensures { (m : ℕ) → Masked request.now.rules m 0 masks → (result.before ≡ before) × (outcome_of result
-        ≡ walks.searching (request.now.rules.principal_count + 1) (truth_for request.now) request.now.rules m before) }
+fn search_by(
+    principals: &Principals<'_>,
+    context: &ObjectContext<'_>,
+    masks: Masks,
+    before: Memo,
+) -> Choice
+    ensures { (m : ℕ) → Masked principals.now m 0 masks → (result.before ≡ before) × (outcome_of result
+        ≡ walks.searching (principals.now.principal_count + 1) (truth_in context.now) principals.now m before) }
 {
     let mut after = before;
-    for _round in 0..=request.columns.principal_count {
-        let open = memo::not_known_false(request, after);
+    for _round in 0..=principals.columns.principal_count {
+        let open = memo::not_known_false(principals, after);
         let Some(c) = least_among(masks, open) else {
             break;
         };
-        let tried = memo::weigh(request, after, c);
+        let tried = memo::weigh(principals, context, after, c);
         after = tried.memo;
         if tried.survives {
             return Choice {

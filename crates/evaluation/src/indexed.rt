@@ -3,7 +3,7 @@
 ghost use Rattle.std.specs.Prelude.{◌≡◌, ◌≤◌, ◌<◌};
 ghost use Rattle.common.specs.Limits.{most_formulas};
 ghost use Rattle.common.specs.Lists.{at};
-ghost use Rattle.vertices.specs.Passes.{edges_along};
+ghost use Rattle.vertices.specs.Passes.{edges_along, OfLabel};
 ghost use Rattle.formula.specs.Formula.{formulas_of};
 ghost use Rattle.formula.specs.Uses.{reads_slot};
 ghost use Rattle.formula.specs.Evaluation.{turned_by, PlaceBelow};
@@ -62,6 +62,7 @@ impl<'a> IndexedRecord<'a> {
     pub(crate) fn edges_with(&self, label: u8, direction: Direction) -> Pass<'a>
         ensures edges { edges_along result ≡ turned_by direction self.now }
         ensures label { result.label ≡ label }
+        ensures positions { OfLabel result }
     {
         let rules = self.columns;
         let sides = match direction {

@@ -8,11 +8,12 @@ ghost use Rattle.std.specs.Prelude.{◌≡◌, cond, not, ◌≤◌, ◌<◌, eq
 ghost use Rattle.common.specs.Limits.{most_formulas};
 ghost use Rattle.common.specs.Lists.{at};
 ghost use Rattle.vertices.specs.Steps.{leads, Among};
-ghost use Rattle.vertices.specs.Passes.{edges_along};
+ghost use Rattle.vertices.specs.Passes.{edges_along, OfLabel};
 ghost use Rattle.formula.specs.Formula.{true_of, true_below, formulas_of, holds};
 ghost use Rattle.formula.specs.Evaluation.{slot_in, context_in, formula_at};
 ghost use Rattle.formula.specs.Evaluation as spec;
 
+pub mod context;
 pub mod indexed;
 
 use common::{MOST_FORMULAS, SLOT_COUNT};
@@ -75,7 +76,8 @@ fn connected_at(rules: &IndexedRecord<'_>, q: ContextNumbers, f: usize, x: u8) -
 // ends of x's edges; another one is evaluated where the only edge ends, or where they all end.
 #[cycle(at_slot_connected_at_connective_evaluate_keep_each_scan_edges_step_at_true_at)]
 fn step_at(rules: &IndexedRecord<'_>, q: ContextNumbers, pass: &Pass<'_>, f: usize, x: u8) -> bool
-    requires { f < most_formulas }
+    requires few { f < most_formulas }
+    requires positions { OfLabel pass.now }
     ensures { let fs = formulas_of rules.now in result ≡ leads (edges_along pass.now) 1 2 pass.now.label
         (true_below fs (context_in rules.now q) f (at fs.rights f)) x }
 {
@@ -171,7 +173,8 @@ fn scan_edges(
     f: usize,
     asked: &Vertices,
 ) -> Vertices
-    requires { f < most_formulas }
+    requires few { f < most_formulas }
+    requires positions { OfLabel pass.now }
     ensures { let fs = formulas_of rules.now in Among asked.now (leads (edges_along pass.now) 1 2 pass.now.label
         (true_below fs (context_in rules.now q) f (at fs.rights f))) result }
 {

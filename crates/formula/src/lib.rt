@@ -140,10 +140,12 @@ fn place_of(q: ContextNumbers, op: u8, left: u8) -> Option<Place>
     }
 }
 
-// Where formula f is true, if it is below n; nowhere if it is not; nothing of one below n that has parts.
+// Where formula f is true, if it is below n; nowhere if it is not; nothing of one below n that has parts. It is so in every record with
+// these ops and left parts, whatever its edges and right parts are.
 pub fn place_below(rules: &Record, q: ContextNumbers, n: usize, f: usize) -> Option<Place>
     requires { n ≤ most_formulas }
-    ensures { PlaceBelow rules.now q n f result }
+    ensures { (r : records.Record) → r.formula_ops ≡ rules.now.formula_ops → r.formula_lefts ≡ rules.now.formula_lefts
+        → PlaceBelow r q n f result }
 {
     if n <= f {
         return Some(Place::Nowhere);

@@ -2,14 +2,15 @@
 use Rattle.std.specs.Prelude.{ℕ, ◌^◌, ◌<◌, ◌≤◌, ◌≡◌, refl, ◌↔◌, Bool, true, false, not, cond, ◌&&◌, List, [], ◌∷◌, eqb}
 use Rattle.std.proofs.Common.{◌∙◌, arith}
 use Rattle.common.specs.Limits.{most_users, most_demarcations, most_principals, privilege_count}
-use Rattle.common.specs.Lists.{at, any, every}
+use Rattle.common.specs.Lists.{at, any, every, below}
 use Rattle.common.specs.BoolLaws.{and_cases, and_both, or_left, or_left_only}
 use Rattle.common.specs.QuantifierLaws.{any_table, table_any, some_of, all_of_lem}
 use Rattle.common.specs.Sets.{member, In}
 use Rattle.common.specs.SetLaws.{member_in, in_member, in_lt}
+use Rattle.closure.specs.Closure.{reaches}
 use Rattle.tables.specs.Loads.{pairs_load}
 use Rattle.policy.specs.declared.Record.{Record}
-use Rattle.policy.specs.Table.{Kind, user, formula, demarcation, hierarchy, principal, exclusion, prerequisite, method}
+use Rattle.policy.specs.Table.{Kind, rows, user, formula, demarcation, hierarchy, principal, exclusion, prerequisite, method}
 use Rattle.policy.specs.Loadable.{table_loads, loadable}
 use Rattle.policy.specs.LoadableLaws.{hierarchy_pairs, prerequisite_pairs, table_few, loadable_table}
 use Rattle.policy.specs.NamedLaws.{principal_named, exclusion_named}
@@ -20,22 +21,24 @@ use Rattle.justification.specs.declared.Question.{Question}
 use Rattle.justification.specs.Predicates.{is_enabled, enabled}
 use Rattle.justification.specs.MarkedSets.{Marks, Those}
 
--- what a demarcation has is what those at or below it list
-pub below_gathers : (r : Record) (d s g : ℕ) → Marks r.demarcation_count (λ e. inferior r e d) s
-    → Gathers r.demarcation_count s r.demarcation_privileges g → (k : ℕ) → (In k g ↔ (demarcation_has r d k ≡ true))
-unfolding demarcation_has
-below_gathers r d s g marks gathers k = (
+-- what the things at or below one list, along any pairs, is what some of them lists
+pub below_gathers : (pairs : List (List ℕ)) (n : ℕ) (lists : List ℕ) (d s g : ℕ) → Marks n (λ e. reaches pairs e d) s
+    → Gathers n s lists g → (k : ℕ) → (In k g ↔ (any (λ e. reaches pairs e d && member k (at lists e)) (below n) ≡ true))
+below_gathers pairs n lists d s g marks gathers k = (
   λ i.
       let (e, l, j, q) = gathers.only k i in
-      table_any lists (λ (e : ℕ). e) r.demarcation_count e l (and_both _ _ (marks.only e j).1 (in_member q)),
+      table_any (λ e. reaches pairs e d && member k (at lists e)) (λ (e : ℕ). e) n e l (and_both _ _ (marks.only e j).1 (in_member q)),
   λ t.
-      let (e, l, x) = any_table lists (λ (e : ℕ). e) r.demarcation_count t in
-      let (y, z) = and_cases (inferior r e d) _ x in
+      let (e, l, x) = any_table (λ e. reaches pairs e d && member k (at lists e)) (λ (e : ℕ). e) n t in
+      let (y, z) = and_cases (reaches pairs e d) _ x in
       gathers.all k e l (marks.all e l y) (member_in z),
 )
-  where
-    lists : ℕ → Bool
-    lists e = inferior r e d && member k (at r.demarcation_privileges e)
+
+-- what a demarcation has is what those at or below it list
+pub demarcation_gathers : (r : Record) (d s g : ℕ) → Marks r.demarcation_count (λ e. inferior r e d) s
+    → Gathers r.demarcation_count s r.demarcation_privileges g → (k : ℕ) → (In k g ↔ (demarcation_has r d k ≡ true))
+unfolding demarcation_has
+demarcation_gathers r = below_gathers (rows hierarchy r) r.demarcation_count r.demarcation_privileges
 
 -- the columns that privileges are granted by are those of a record that loads
 pub grants_fit : (r : Record) → ((j : Kind) → table_loads r j ≡ true)

@@ -1,5 +1,5 @@
 -- Sets gathered index by index, as `set_of`'s loop goes, and what they are where the test decides something.
-use Rattle.std.proofs.Common.{ℕ, ◌+◌, ◌^◌, ◌<◌, ◌≡◌, ◌⊎◌, inl, inr, Bool, true, false, List, refl, sym, subst, ⊎_elim, eq-or-lt_of_le, arith, length}
+use Rattle.std.proofs.Common.{ℕ, ◌+◌, ◌^◌, ◌<◌, ◌≡◌, ◌⊎◌, inl, inr, Bool, true, false, cond, List, refl, sym, subst, ⊎_elim, eq-or-lt_of_le, arith, length}
 use Rattle.std.proofs.Math.ListN.{set}
 use Rattle.std.proofs.Math.Seq.{get_or-set_same, get_or-set_other}
 use Rattle.std.specs.Int.Bits.{bit_or}
@@ -35,6 +35,11 @@ set_of_skip {answers} {i} {s} h a = record {
       (λ u. h.all p u)
       (last p i l);
 }
+
+pub set_of_next : {answers : ℕ → Bool → Type 0} {i s : ℕ} (b : Bool) → SetOf answers i s → answers i b
+    → SetOf answers (i + 1) (cond b (bit_or s (2 ^ i)) s)
+set_of_next true h a = set_of_more h a
+set_of_next false h a = set_of_skip h a
 
 -- ---- a set by a test that decides something
 

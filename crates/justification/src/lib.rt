@@ -57,9 +57,7 @@ pub fn set_of<F: Fn(usize) -> bool>(n: usize, passes: F) -> u32
 {
     let mut s = 0;
     for p in 0..n {
-        if passes(p) {
-            s = search::add(s, p);
-        }
+        s = marked(s, p, passes(p));
     }
     s
 }

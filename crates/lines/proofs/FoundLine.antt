@@ -1,5 +1,5 @@
 -- What `next_of` found at an offset: the text's end or a line of another kind, a refused line, or a line of the kind.
-use Rattle.std.specs.Prelude.{ℕ, ◌+◌, ◌*◌, ◌≤◌, ◌<◌, ◌≡◌, refl, ◌≢◌, Bool, true, false, List, [], ◌∷◌, length, drop, replicate, eqb, Option, None, Some, Result, Ok, Err}
+use Rattle.std.specs.Prelude.{ℕ, ◌+◌, ◌-◌, ◌*◌, ◌≤◌, ◌<◌, ◌≡◌, refl, ◌≢◌, Bool, true, false, cond, List, [], ◌∷◌, length, drop, replicate, ltb, eqb, Option, None, Some, Result, Ok, Err}
 use Rattle.std.proofs.Common.{sym, ◌∙◌, ap, subst, arith, eqb-true}
 use Rattle.std.proofs.lemmas.Bool.{false≢true, eqb-false}
 use Rattle.std.proofs.Math.Decide.{dec_lt}
@@ -14,6 +14,7 @@ use Rattle.common.specs.RefusalLaws.{same_refusal}
 use Rattle.common.specs.declared.Refusal.{Refusal}
 use Rattle.octets.specs.Line.{Framed, refused, octets, kind_octet, total, line_of, frame}
 use Rattle.octets.specs.Number.{number}
+use Rattle.octets.specs.Answers.{HoldsLine}
 use Rattle.octets.proofs.LineLaws.{accepted, refused_is}
 use Rattle.octets.proofs.WritingLaws.{Octets, octets_of_pairs}
 use Rattle.lines.specs.declared.TableKind.{TableKind}
@@ -21,12 +22,12 @@ use Rattle.lines.specs.declared.TableKind.TheVariants.{Users, Edges, Formulas, D
 use Rattle.lines.specs.declared.Row.TheVariants.{User, Edge, Formula, Demarcation, Principal, Exclusion, Prerequisite, Method}
 use Rattle.lines.specs.declared.Row.TheVariants as rows
 use Rattle.lines.specs.declared.Line.{Line}
-use Rattle.lines.specs.NextLine.{NextValues, in_room, no_line, refused_line, body_line, next_values, next_is, next_of}
+use Rattle.lines.specs.NextLine.{NextValues, no_line, refused_line, body_line, next_values, next_is, next_of}
 use Rattle.lines.specs.NextLine.{octets_in, octets_at, number_at}
 use Rattle.lines.specs.Judging.{row_at, most_line_sum}
 
--- a line of the kind and size, its octets first in an empty room
-pub record FoundLine (text : List ℕ) (offset kind size next sum : ℕ) (room : List ℕ) : Type 0 where
+-- a line of the kind and size
+pub record FoundLine (text : List ℕ) (offset kind size next sum : ℕ) : Type 0 where
   pub os : List ℕ
   pub within : offset < length text
   pub framed : frame (drop offset text) ≡ octets os
@@ -34,42 +35,42 @@ pub record FoundLine (text : List ℕ) (offset kind size next sum : ℕ) (room :
   pub sized : length os ≡ size
   pub follows : next ≡ offset + 2 * length os + 1
   pub summed : sum ≡ total os
-  pub held : room ≡ in_room os
 
 -- the numbers of a line are those of its octets
-row_same : (kind : TableKind) (l m : List ℕ) → ((k : ℕ) → at l k ≡ at m k) → row_at kind l ≡ row_at kind m
+row_same : (kind : TableKind) (size : ℕ) (l m : List ℕ) → ((k : ℕ) → at l k ≡ at m k) → row_at kind size l ≡ row_at kind size m
 unfolding number_at
-row_same Users l m h = λ i. User (h 2 i) (h 3 i * 256 + h 4 i)
-row_same Edges l m h = λ i. Edge (h 2 i) (h 3 i) (h 4 i)
-row_same Formulas l m h = λ i. Formula (h 2 i) (h 3 i) (h 4 i)
-row_same Demarcations l m h = λ i. Demarcation (number (table 8 (λ j. h (2 + j) i)))
-row_same Hierarchy l m h = λ i. rows.Hierarchy (h 2 i) (h 3 i)
-row_same Principals l m h = λ i. Principal (h 2 i) (h 3 i)
-row_same Exclusions l m h = λ i. Exclusion (h 2 i) (h 3 i)
-row_same Prerequisites l m h = λ i. Prerequisite (h 2 i) (h 3 i)
-row_same Methods l m h = λ i. Method (h 2 i) (number (table 8 (λ j. h (3 + j) i)))
+row_same Users n l m h = λ i. User (h 2 i) (h 3 i * 256 + h 4 i)
+row_same Edges n l m h = λ i. Edge (h 2 i) (h 3 i) (h 4 i)
+row_same Formulas n l m h = λ i. Formula (h 2 i) (h 3 i) (h 4 i)
+row_same Demarcations n l m h = λ i. Demarcation (cond (ltb 10 n) (number (table 8 (λ j. h (n - 9 + j) i))) 0)
+row_same Hierarchy n l m h = λ i. rows.Hierarchy (h 2 i) (h 3 i)
+row_same Principals n l m h = λ i. Principal (h 2 i) (h 3 i)
+row_same Exclusions n l m h = λ i. Exclusion (h 2 i) (h 3 i)
+row_same Prerequisites n l m h = λ i. Prerequisite (h 2 i) (h 3 i)
+row_same Methods n l m h = λ i. Method (h 2 i) (cond (ltb 10 n) (number (table 8 (λ j. h (n - 9 + j) i))) 0)
 
--- the octets in the room: one by one, as numbers, and as the line's numbers
-module _ {text : List ℕ} {offset kind size next sum : ℕ} {room : List ℕ} (f : FoundLine text offset kind size next sum room) where
+-- the octets in a room that was empty: one by one, as numbers, and as the line's numbers
+module _ {text : List ℕ} {offset kind size next sum : ℕ} (f : FoundLine text offset kind size next sum) {room : List ℕ}
+    (h : HoldsLine size (frame (drop offset text)) (replicate line_room 0) room) where
   pub found_octet : (k : ℕ) → at room k ≡ at f.os k
   found_octet k =
-      ap (λ (r : List ℕ). at r k) f.held
-      ∙ zeros_at f.os (drop (length f.os) (replicate line_room 0))
-      (λ j. get_or-drop (length f.os) (replicate line_room 0) j 0 ∙ zero_at line_room (length f.os + j)) k
+      ap (λ (r : List ℕ). at r k) (h f.os f.framed f.sized)
+      ∙ zeros_at f.os (drop size (replicate line_room 0))
+      (λ j. get_or-drop size (replicate line_room 0) j 0 ∙ zero_at line_room (size + j)) k
 
   pub found_number : (k n : ℕ) → number_at room k n ≡ number_at f.os k n
   unfolding number_at
   found_number k n = ap number (table_same n _ _ (λ i m. found_octet (k + i)))
 
-  pub found_row : (kind : TableKind) → row_at kind room ≡ row_at kind (octets_at text offset)
-  found_row kind = row_same kind room f.os found_octet ∙ ap (λ (g : Framed). row_at kind (octets_in g)) (sym f.framed)
+  pub found_row : (kind : TableKind) → row_at kind size room ≡ row_at kind size (octets_at text offset)
+  found_row kind = row_same kind size room f.os found_octet ∙ ap (λ (g : Framed). row_at kind size (octets_in g)) (sym f.framed)
 
 total_most : (os : List ℕ) → Octets os → total os ≤ 255 * length os
 total_most [] p = omega arith
 total_most (o ∷ os) p = let h = total_most os p.1 in let k = p.0 in omega arith
 
 -- the octets of an accepted line add to at most so much
-sum_most : (t : List ℕ) {os : List ℕ} → frame t ≡ octets os → total os ≤ most_line_sum
+pub sum_most : (t : List ℕ) {os : List ℕ} → frame t ≡ octets os → total os ≤ most_line_sum
 sum_most t {os} e =
     let a = accepted e in
     let p : Octets os = subst Octets a.read (octets_of_pairs (line_of t) a.are) in
@@ -82,7 +83,7 @@ sum_most t {os} e =
     first_most (o ∷ os) p e = let k = p.0 in omega arith
 
 -- so those of a line that was found
-pub found_sum : {text : List ℕ} {offset kind size next sum : ℕ} {room : List ℕ} → FoundLine text offset kind size next sum room
+pub found_sum : {text : List ℕ} {offset kind size next sum : ℕ} → FoundLine text offset kind size next sum
     → sum ≤ most_line_sum
 found_sum {text} {offset} f = let m = sum_most (drop offset text) f.framed in let e = f.summed in omega arith
 
@@ -113,7 +114,7 @@ module _ (text : List ℕ) (offset kind size : ℕ) where
         → next_of text offset kind size ≡ refused_line wrong_kind → Stands
     of_the_kind :
         offset < length text → {os : List ℕ} → frame (drop offset text) ≡ octets os → kind_octet os ≡ kind → length os ≡ size
-        → next_of text offset kind size ≡ body_line (offset + 2 * length os + 1) (total os) (in_room os) → Stands
+        → next_of text offset kind size ≡ body_line (offset + 2 * length os + 1) (total os) → Stands
 
   pub stands : Stands
   unfolding next_of
@@ -186,10 +187,10 @@ module _ (text : List ℕ) (offset kind size : ℕ) where
 
   -- a line of this kind and size
   pub found_line :
-      {next sum : ℕ} {room : List ℕ} → next_of text offset kind size ≡ body_line next sum room → FoundLine text offset kind size next sum room
-  found_line {next} {sum} {room} e = go stands
+      {next sum : ℕ} → next_of text offset kind size ≡ body_line next sum → FoundLine text offset kind size next sum
+  found_line {next} {sum} e = go stands
     where
-      go : Stands → FoundLine text offset kind size next sum room
+      go : Stands → FoundLine text offset kind size next sum
       go (past l f) = absurd (false≢true (ap (λ (v : NextValues). v.read) (sym f ∙ e)))
       go (not_framed l g f) =
           let z = ap (λ (v : NextValues). v.number) (sym e ∙ f) in let k = refused_is (drop offset text) g in absurd (omega arith)
@@ -204,7 +205,6 @@ module _ (text : List ℕ) (offset kind size : ℕ) where
             sized = d;
             follows = ap (λ (v : NextValues). v.next) (sym e ∙ f);
             summed = ap (λ (v : NextValues). v.total) (sym e ∙ f);
-            held = ap (λ (v : NextValues). v.octets) (sym e ∙ f);
           }
 
   -- a line of another kind
@@ -231,4 +231,4 @@ module _ (text : List ℕ) (offset kind size : ℕ) where
   same_next (Ok (Some l)) (Ok None) e f = absurd (false≢true (ap (λ (v : NextValues). v.read) (f ∙ sym e)))
   same_next (Ok (Some l)) (Err k) e f = absurd (refused_some (sym f) (ap (λ (v : NextValues). v.number) (f ∙ sym e)))
   same_next (Ok (Some l)) (Ok (Some m)) e f =
-      ap (λ (v : NextValues). Ok (Some (record { octets = v.octets; next = v.next; total = v.total }))) (e ∙ sym f)
+      ap (λ (v : NextValues). Ok (Some (record { next = v.next; total = v.total }))) (e ∙ sym f)

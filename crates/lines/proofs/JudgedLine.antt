@@ -1,11 +1,14 @@
 -- What the answers of `judged_line` say of the line at a cursor, case by case.
-use Rattle.std.specs.Prelude.{ℕ, ◌+◌, ◌≡◌, refl, ◌≢◌, Bool, true, false, cond, List, eqb, Option, None, Some, Result, Ok, Err}
+use Rattle.std.specs.Prelude.{ℕ, ◌+◌, ◌≡◌, refl, ◌≢◌, Bool, true, false, cond, List, drop, replicate, eqb, Option, None, Some, Result, Ok, Err}
 use Rattle.std.proofs.Common.{sym, ◌∙◌, ap, eqb-true, eq-eqb, ne_eqb}
 use Rattle.std.proofs.lemmas.Bool.{false≢true, eqb-false}
 use Rattle.std.proofs.lemmas.Option.{none-some}
 use Rattle.common.specs.RefusalNumbers.{number}
 use Rattle.common.specs.RefusalLaws.{same_refusal}
 use Rattle.common.specs.declared.Refusal.{Refusal}
+use Rattle.common.specs.Limits.{line_room}
+use Rattle.octets.specs.Line.{frame}
+use Rattle.octets.specs.Answers.{HoldsLine}
 use Rattle.policy.specs.Table.{code}
 use Rattle.policy.specs.Rows.{key}
 use Rattle.lines.specs.declared.TableKind.{TableKind}
@@ -14,7 +17,7 @@ use Rattle.lines.specs.declared.Bounds.{Bounds}
 use Rattle.lines.specs.declared.Cursor.{Cursor}
 use Rattle.lines.specs.declared.Taken.{Taken}
 use Rattle.lines.specs.NextLine.{no_line, refused_line, body_line, next_of, octets_at}
-use Rattle.lines.specs.Judging.{table_of, size_of, row_at, kind_in, fields_of, height_by, refusal_by, moved_past}
+use Rattle.lines.specs.Judging.{table_of, row_at, kind_in, fields_of, height_by, refusal_by, moved_past}
 use Rattle.lines.specs.Judging.{JudgedValues, not_taken, taken_with, judged_values, judged_row, judged_next, judged_of}
 use Rattle.lines.proofs.FoundLine.{refused_some, found_line, found_row, Stands, stands}
 use Rattle.lines.proofs.FoundLine.Stands.{past, not_framed, of_another_kind, of_another_size, of_the_kind}
@@ -34,11 +37,11 @@ same_judged (Ok (Some t)) (Ok None) e = absurd (false≢true (ap (λ (v : Judged
 same_judged (Ok (Some t)) (Err k) e = absurd (none-some _ (ap (λ (v : JudgedValues). v.taken) (sym e)))
 same_judged (Ok (Some t)) (Ok (Some u)) e = ap (λ (v : Taken). Ok (Some v)) (some_same _ _ (ap (λ (v : JudgedValues). v.taken) e))
 
--- a line of a kind that is held to the bounds m and the heights of formulas before it
-module _ (text : List ℕ) (c : Cursor) (kind : TableKind) (m : Bounds) (heights : ℕ → ℕ) where
+-- a line of a kind and size that is held to the bounds m and the heights of formulas before it
+module _ (text : List ℕ) (c : Cursor) (kind : TableKind) (size : ℕ) (m : Bounds) (heights : ℕ → ℕ) where
   -- the line's numbers, its height, and what refuses it
   abbrev pub row_here : Row
-  row_here = row_at kind (octets_at text c.offset)
+  row_here = row_at kind size (octets_at text c.offset)
 
   abbrev pub height_here : ℕ
   height_here = height_by row_here heights
@@ -57,46 +60,47 @@ module _ (text : List ℕ) (c : Cursor) (kind : TableKind) (m : Bounds) (heights
 
   -- refused: as a line, or by its numbers
   pub data Refuses (n : ℕ) : Type 0 where
-    as_line : next_of text c.offset (code (table_of kind)) (size_of (table_of kind)) ≡ refused_line n → Refuses n
+    as_line : next_of text c.offset (code (table_of kind)) size ≡ refused_line n → Refuses n
     by_numbers :
-        {following sum : ℕ} {room : List ℕ} → next_of text c.offset (code (table_of kind)) (size_of (table_of kind)) ≡ body_line following sum room
+        {following sum : ℕ} → next_of text c.offset (code (table_of kind)) size ≡ body_line following sum
         → n ≡ refusal_here → n ≢ 0 → Refuses n
 
   -- taken: with its numbers, its height, the least key that may follow, and the cursor past it
   pub record Takes (t : Taken) : Type 0 where
     pub following : ℕ
     pub sum : ℕ
-    pub room : List ℕ
-    pub found : next_of text c.offset (code (table_of kind)) (size_of (table_of kind)) ≡ body_line following sum room
+    pub found : next_of text c.offset (code (table_of kind)) size ≡ body_line following sum
     pub passes : refusal_here ≡ 0
     pub same : t ≡ taken_here following sum
 
   abbrev pub Judges : Result (Option Taken) Refusal → Type 0
-  Judges (Ok None) = next_of text c.offset (code (table_of kind)) (size_of (table_of kind)) ≡ no_line
+  Judges (Ok None) = next_of text c.offset (code (table_of kind)) size ≡ no_line
   Judges (Err why) = Refuses (number why)
   Judges (Ok (Some t)) = Takes t
 
   -- a line of the kind
-  of_body : {following sum : ℕ} {room : List ℕ} → next_of text c.offset (code (table_of kind)) (size_of (table_of kind)) ≡ body_line following sum room
-      → judged_of text c kind m heights ≡ judged_row m heights (moved_past c (code (table_of kind)) following sum) row_here
+  pub of_body : {following sum : ℕ} → next_of text c.offset (code (table_of kind)) size ≡ body_line following sum
+      → judged_of text c kind size m heights ≡ judged_row m heights (moved_past c (code (table_of kind)) following sum) row_here
   unfolding judged_of
-  of_body e = ap (judged_next text c kind m heights) e
+  of_body e = ap (judged_next text c kind size m heights) e
 
   -- what is said has the number and values of the answer
-  pub says_other : next_of text c.offset (code (table_of kind)) (size_of (table_of kind)) ≡ no_line → judged_values (Ok None) ≡ judged_of text c kind m heights
+  pub says_other : next_of text c.offset (code (table_of kind)) size ≡ no_line → judged_values (Ok None) ≡ judged_of text c kind size m heights
   unfolding judged_of
-  says_other e = sym (ap (judged_next text c kind m heights) e)
+  says_other e = sym (ap (judged_next text c kind size m heights) e)
 
-  pub says_refused : {n : ℕ} → next_of text c.offset (code (table_of kind)) (size_of (table_of kind)) ≡ refused_line n → not_taken true n ≡ judged_of text c kind m heights
+  pub says_refused : {n : ℕ} → next_of text c.offset (code (table_of kind)) size ≡ refused_line n → not_taken true n ≡ judged_of text c kind size m heights
   unfolding judged_of
   says_refused {n} e =
-      sym (ap (judged_next text c kind m heights) e ∙ rw (ne_eqb n 0 (refused_some text c.offset (code (table_of kind)) (size_of (table_of kind)) e)))
+      sym (ap (judged_next text c kind size m heights) e ∙ rw (ne_eqb n 0 (refused_some text c.offset (code (table_of kind)) size e)))
 
   -- of a line of the kind, of which v, h and n were found to be the numbers, the height and what refuses them
-  module _ {following sum : ℕ} {room : List ℕ} (e : next_of text c.offset (code (table_of kind)) (size_of (table_of kind)) ≡ body_line following sum room)
-      {v : Row} (q : v ≡ row_at kind room) {h : ℕ} (u : h ≡ height_by v heights) {n : ℕ} (z : n ≡ refusal_by m h v) where
+  -- in an empty room for its octets
+  module _ {following sum : ℕ} (e : next_of text c.offset (code (table_of kind)) size ≡ body_line following sum) {room : List ℕ}
+      (held : HoldsLine size (frame (drop c.offset text)) (replicate line_room 0) room)
+      {v : Row} (q : v ≡ row_at kind size room) {h : ℕ} (u : h ≡ height_by v heights) {n : ℕ} (z : n ≡ refusal_by m h v) where
     row_found : v ≡ row_here
-    row_found = q ∙ found_row (found_line text c.offset (code (table_of kind)) (size_of (table_of kind)) e) kind
+    row_found = q ∙ found_row (found_line text c.offset (code (table_of kind)) size e) held kind
 
     height_found : h ≡ height_here
     height_found = u ∙ ap (λ (w : Row). height_by w heights) row_found
@@ -104,13 +108,13 @@ module _ (text : List ℕ) (c : Cursor) (kind : TableKind) (m : Bounds) (heights
     refusal_found : n ≡ refusal_here
     refusal_found = z ∙ (λ i. refusal_by m (height_found i) (row_found i))
 
-    pub says_wrong : n ≢ 0 → not_taken true n ≡ judged_of text c kind m heights
+    pub says_wrong : n ≢ 0 → not_taken true n ≡ judged_of text c kind size m heights
     says_wrong ne =
         sym (of_body e ∙ rw (ne_eqb refusal_here 0 (λ y. ne (refusal_found ∙ y))) (ap (not_taken true) (sym refusal_found)))
 
     pub says_taken : n ≡ 0 → {least : ℕ} → least ≡ key (kind_in v) (fields_of v) + 1
         → {further : Cursor} → further ≡ moved_past c (code (table_of kind)) following sum
-        → taken_with (record { row = v; height = h; least_key = least; cursor = further }) ≡ judged_of text c kind m heights
+        → taken_with (record { row = v; height = h; least_key = least; cursor = further }) ≡ judged_of text c kind size m heights
     says_taken y l w =
         (λ i. taken_with (record {
           row = row_found i;
@@ -121,21 +125,20 @@ module _ (text : List ℕ) (c : Cursor) (kind : TableKind) (m : Bounds) (heights
         ∙ sym (of_body e ∙ rw (eq-eqb refusal_here 0 (sym refusal_found ∙ y)))
 
   -- and what has the number and values of an answer says so
-  pub values_say : (r : Result (Option Taken) Refusal) → judged_values r ≡ judged_of text c kind m heights → Judges r
-  values_say r e = go (stands text c.offset (code (table_of kind)) (size_of (table_of kind))) r e
+  pub values_say : (r : Result (Option Taken) Refusal) → judged_values r ≡ judged_of text c kind size m heights → Judges r
+  values_say r e = go (stands text c.offset (code (table_of kind)) size) r e
     where
       -- of a line of the kind
-      own : {following sum : ℕ} {room : List ℕ} → next_of text c.offset (code (table_of kind)) (size_of (table_of kind)) ≡ body_line following sum room
+      own : {following sum : ℕ} → next_of text c.offset (code (table_of kind)) size ≡ body_line following sum
           → (x : Bool) → eqb refusal_here 0 ≡ x → (r : Result (Option Taken) Refusal)
           → judged_values r ≡ cond x (taken_with (taken_here following sum)) (not_taken true refusal_here)
           → Judges r
       own f true q (Ok None) e = absurd (false≢true (ap (λ (v : JudgedValues). v.read) e))
       own f true q (Err why) e = absurd (none-some _ (ap (λ (v : JudgedValues). v.taken) e))
-      own {following} {sum} {room} f true q (Ok (Some t)) e =
+      own {following} {sum} f true q (Ok (Some t)) e =
           record {
             following = following;
             sum = sum;
-            room = room;
             found = f;
             passes = eqb-true refusal_here 0 q;
             same = some_same t (taken_here following sum) (ap (λ (v : JudgedValues). v.taken) e);
@@ -147,21 +150,21 @@ module _ (text : List ℕ) (c : Cursor) (kind : TableKind) (m : Bounds) (heights
       own f false q (Ok (Some t)) e = absurd (none-some _ (ap (λ (v : JudgedValues). v.taken) (sym e)))
 
       -- of none of the kind
-      none_here : next_of text c.offset (code (table_of kind)) (size_of (table_of kind)) ≡ no_line → (r : Result (Option Taken) Refusal)
+      none_here : next_of text c.offset (code (table_of kind)) size ≡ no_line → (r : Result (Option Taken) Refusal)
           → judged_values r ≡ not_taken false 0 → Judges r
       none_here f (Ok None) e = f
       none_here f (Err why) e = absurd (false≢true (ap (λ (v : JudgedValues). v.read) (sym e)))
       none_here f (Ok (Some t)) e = absurd (false≢true (ap (λ (v : JudgedValues). v.read) (sym e)))
 
       -- of one that is refused
-      refused_here : {n : ℕ} → next_of text c.offset (code (table_of kind)) (size_of (table_of kind)) ≡ refused_line n → (r : Result (Option Taken) Refusal)
+      refused_here : {n : ℕ} → next_of text c.offset (code (table_of kind)) size ≡ refused_line n → (r : Result (Option Taken) Refusal)
           → judged_values r ≡ not_taken true n → Judges r
       refused_here f (Ok None) e = absurd (false≢true (ap (λ (v : JudgedValues). v.read) e))
       refused_here f (Err why) e = as_line (f ∙ ap (λ (v : JudgedValues). refused_line v.number) (sym e))
       refused_here f (Ok (Some t)) e = absurd (none-some _ (ap (λ (v : JudgedValues). v.taken) (sym e)))
 
-      go : Stands text c.offset (code (table_of kind)) (size_of (table_of kind)) → (r : Result (Option Taken) Refusal)
-          → judged_values r ≡ judged_of text c kind m heights → Judges r
+      go : Stands text c.offset (code (table_of kind)) size → (r : Result (Option Taken) Refusal)
+          → judged_values r ≡ judged_of text c kind size m heights → Judges r
       go (past l f) r e = none_here f r (e ∙ sym (says_other f))
       go (not_framed l g f) r e = refused_here f r (e ∙ sym (says_refused f))
       go (of_another_kind l g h f) r e = none_here f r (e ∙ sym (says_other f))

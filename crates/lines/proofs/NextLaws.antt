@@ -10,7 +10,7 @@ use Rattle.octets.specs.Line.{Framed, refused, octets, kind_octet, total, frame}
 use Rattle.octets.proofs.LineLaws.{accepted, refused_is, next_line_lem, octet_at_lem}
 use Rattle.octets.specs.Answers.{octet_at, total_of_size, HoldsLine}
 use Rattle.octets.proofs.AnswerLaws.{AnswerOctets, held_octet}
-use Rattle.lines.specs.NextLine.{NextValues, in_room, no_line, refused_line, body_line, next_of, other_is, other_refusal}
+use Rattle.lines.specs.NextLine.{NextValues, no_line, refused_line, body_line, next_of, other_is, other_refusal}
 use Rattle.lines.proofs.FoundLine.{Stands, stands, framed_within}
 use Rattle.lines.proofs.FoundLine.Stands.{past, not_framed, of_another_kind, of_another_size, of_the_kind}
 
@@ -46,15 +46,15 @@ module _ {text : List ℕ} {offset size sum : ℕ} (z : OfSize text offset size 
   of_size_next =
       let n = (next_line_lem (drop offset text) z.framed).0 in let s = z.sized in omega (arith, length-drop offset text)
 
-  -- in a room that was empty
-  module _ (kind : ℕ) {room : List ℕ} (h : HoldsLine size (frame (drop offset text)) (replicate line_room 0) room) where
+  -- in a room for them
+  module _ (kind : ℕ) (before : List ℕ) {room : List ℕ} (h : HoldsLine size (frame (drop offset text)) before room) where
     -- the octet that says the kind
     kind_read : at room 1 ≡ kind_octet z.os
-    kind_read = held_octet _ h z.framed z.sized 1 (omega (arith, of_size_some))
+    kind_read = held_octet before h z.framed z.sized 1 (omega (arith, of_size_some))
 
     here : next_of text offset kind size
         ≡ cond (eqb (kind_octet z.os) kind)
-        (cond (eqb (length z.os) size) (body_line (offset + 2 * length z.os + 1) (total z.os) (in_room z.os)) (refused_line wrong_kind))
+        (cond (eqb (length z.os) size) (body_line (offset + 2 * length z.os + 1) (total z.os)) (refused_line wrong_kind))
         no_line
     here = framed_within text offset kind size z.framed
 
@@ -63,14 +63,11 @@ module _ {text : List ℕ} {offset size sum : ℕ} (z : OfSize text offset size 
     next_other ne = sym (here ∙ rw (ne_eqb (kind_octet z.os) kind (λ e. ne (kind_read ∙ e))))
 
     -- of the kind
-    pub next_body : at room 1 ≡ kind → body_line (offset + 2 * size + 1) sum room ≡ next_of text offset kind size
+    pub next_body : at room 1 ≡ kind → body_line (offset + 2 * size + 1) sum ≡ next_of text offset kind size
     next_body e =
         sym (here
         ∙ rw (eq-eqb _ _ (sym kind_read ∙ e), eq-eqb _ _ z.sized)
-        (λ i. body_line (offset + 2 * z.sized i + 1) (sym z.summed i) (held i)))
-      where
-        held : in_room z.os ≡ room
-        held = ap (λ (n : ℕ). z.os ++ drop n (replicate line_room 0)) z.sized ∙ sym (h z.os z.framed z.sized)
+        (λ i. body_line (offset + 2 * z.sized i + 1) (sym z.summed i)))
 
 -- ---- no line of the size
 

@@ -1,5 +1,5 @@
 -- A line of any kind that has a table, by the numbers that its body may hold (`Row`): what refuses it, and what comes after it.
-use Rattle.std.specs.Prelude.{ℕ, ◌+◌, ◌*◌, ◌≤◌, Bool, true, false, not, cond, ◌&&◌, List, [], ◌∷◌, ltb, leb, eqb, Option, None, Some, Result, Ok, Err}
+use Rattle.std.specs.Prelude.{ℕ, ◌+◌, ◌-◌, ◌*◌, ◌≤◌, Bool, true, false, not, cond, ◌&&◌, List, [], ◌∷◌, ltb, leb, eqb, Option, None, Some, Result, Ok, Err}
 use Rattle.common.specs.Lists.{at}
 use Rattle.common.specs.Limits.{most_edges, most_formulas, most_demarcations, most_principals, most_methods, most_lines}
 use Rattle.common.specs.Causes.{first}
@@ -39,17 +39,21 @@ size_of k = total (widths k) + 3
 
 -- ---- the numbers of a line
 
--- of the octets of a line of a kind
-abbrev pub row_at : TableKind → List ℕ → Row
-row_at Users os = User (at os 2) (at os 3 * 256 + at os 4)
-row_at Edges os = Edge (at os 2) (at os 3) (at os 4)
-row_at Formulas os = Formula (at os 2) (at os 3) (at os 4)
-row_at Demarcations os = Demarcation (number_at os 2 8)
-row_at Hierarchy os = rows.Hierarchy (at os 2) (at os 3)
-row_at Principals os = Principal (at os 2) (at os 3)
-row_at Exclusions os = Exclusion (at os 2) (at os 3)
-row_at Prerequisites os = Prerequisite (at os 2) (at os 3)
-row_at Methods os = Method (at os 2) (number_at os 3 8)
+-- the eight octets before the check octet of a line that has so many
+abbrev pub privileges_at : ℕ → List ℕ → ℕ
+privileges_at size os = cond (ltb 10 size) (number_at os (size - 9) 8) 0
+
+-- of the octets of a line of a kind, so many
+abbrev pub row_at : TableKind → ℕ → List ℕ → Row
+row_at Users size os = User (at os 2) (at os 3 * 256 + at os 4)
+row_at Edges size os = Edge (at os 2) (at os 3) (at os 4)
+row_at Formulas size os = Formula (at os 2) (at os 3) (at os 4)
+row_at Demarcations size os = Demarcation (privileges_at size os)
+row_at Hierarchy size os = rows.Hierarchy (at os 2) (at os 3)
+row_at Principals size os = Principal (at os 2) (at os 3)
+row_at Exclusions size os = Exclusion (at os 2) (at os 3)
+row_at Prerequisites size os = Prerequisite (at os 2) (at os 3)
+row_at Methods size os = Method (at os 2) (privileges_at size os)
 
 -- the kind of the table that they stand in, and themselves as the numbers of the kind's body
 abbrev pub kind_in : Row → Kind
@@ -145,13 +149,13 @@ judged_row m heights further v =
     (record { row = v; height = height_by v heights; least_key = key (kind_in v) (fields_of v) + 1; cursor = further }))
     (not_taken true (refusal_by m (height_by v heights) v))
 
--- of the line at a cursor, as one of a kind
-module _ (text : List ℕ) (c : Cursor) (kind : TableKind) (m : Bounds) (heights : ℕ → ℕ) where
+-- of the line at a cursor, as one of a kind and size
+module _ (text : List ℕ) (c : Cursor) (kind : TableKind) (size : ℕ) (m : Bounds) (heights : ℕ → ℕ) where
   abbrev pub judged_next : NextValues → JudgedValues
   judged_next line =
       cond (line.read && eqb line.number 0)
-      (judged_row m heights (moved_past c (code (table_of kind)) line.next line.total) (row_at kind (octets_at text c.offset)))
+      (judged_row m heights (moved_past c (code (table_of kind)) line.next line.total) (row_at kind size (octets_at text c.offset)))
       (not_taken line.read line.number)
 
   unfoldable pub judged_of : JudgedValues
-  judged_of = judged_next (next_of text c.offset (code (table_of kind)) (size_of (table_of kind)))
+  judged_of = judged_next (next_of text c.offset (code (table_of kind)) size)

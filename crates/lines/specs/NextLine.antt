@@ -1,9 +1,8 @@
 -- What stands at an offset of a text, for a reader of lines of one kind, and the numbers there.
-use Rattle.std.specs.Prelude.{ℕ, ◌+◌, ◌*◌, Bool, true, false, cond, List, [], ◌++◌, length, drop, replicate, ltb, eqb, Option, None, Some, Result, Ok, Err}
+use Rattle.std.specs.Prelude.{ℕ, ◌+◌, ◌*◌, Bool, true, false, cond, List, [], length, drop, ltb, eqb, Option, None, Some, Result, Ok, Err}
 use Rattle.common.specs.Lists.{at, table}
 use Rattle.common.specs.RefusalNumbers as refusal
 use Rattle.common.specs.declared.Refusal.{Refusal}
-use Rattle.common.specs.Limits.{line_room}
 use Rattle.common.specs.Refusals.{wrong_kind}
 use Rattle.octets.specs.Line.{Framed, refused, octets, kind_octet, total, frame}
 use Rattle.octets.specs.Number.{number}
@@ -15,36 +14,31 @@ pub record NextValues : Type 0 where
   pub read : Bool
   -- 1, 2, 3 or 4 of a refused line, else 0
   pub number : ℕ
-  -- of a line of this kind where the next one starts, the plain sum of its octets, and these first in an empty room for a line's; else 0
-  -- and none
+  -- of a line of this kind where the next one starts, and the plain sum of its octets; else 0
   pub next : ℕ
   pub total : ℕ
-  pub octets : List ℕ
-
-abbrev pub in_room : List ℕ → List ℕ
-in_room os = os ++ drop (length os) (replicate line_room 0)
 
 abbrev pub no_line : NextValues
-no_line = record { read = false; number = 0; next = 0; total = 0; octets = [] }
+no_line = record { read = false; number = 0; next = 0; total = 0 }
 
 abbrev pub refused_line : ℕ → NextValues
-refused_line k = record { read = true; number = k; next = 0; total = 0; octets = [] }
+refused_line k = record { read = true; number = k; next = 0; total = 0 }
 
-abbrev pub body_line : ℕ → ℕ → List ℕ → NextValues
-body_line next total room = record { read = true; number = 0; next = next; total = total; octets = room }
+abbrev pub body_line : ℕ → ℕ → NextValues
+body_line next total = record { read = true; number = 0; next = next; total = total }
 
 -- of each case of an answer of `next_line`
 abbrev pub next_values : Result (Option Line) Refusal → NextValues
 next_values (Ok None) = no_line
 next_values (Err why) = refused_line (refusal.number why)
-next_values (Ok (Some line)) = body_line line.next line.total line.octets
+next_values (Ok (Some line)) = body_line line.next line.total
 
 -- of a framed line at an offset, whose kind's lines have so many octets
 abbrev pub next_is : ℕ → ℕ → ℕ → Framed → NextValues
 next_is offset kind size (refused k) = refused_line k
 next_is offset kind size (octets os) =
     cond (eqb (kind_octet os) kind)
-    (cond (eqb (length os) size) (body_line (offset + 2 * length os + 1) (total os) (in_room os)) (refused_line wrong_kind))
+    (cond (eqb (length os) size) (body_line (offset + 2 * length os + 1) (total os)) (refused_line wrong_kind))
     no_line
 
 -- of what stands at an offset of a text

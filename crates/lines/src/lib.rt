@@ -2,14 +2,16 @@
 
 #![tactic(auto)]
 
-ghost use Rattle.std.specs.Prelude.{◌≡◌, ◌+◌, ◌≤◌, ◌<◌, replicate, set};
+ghost use Rattle.std.specs.Prelude.{◌≡◌, ◌+◌, ◌≤◌, ◌<◌, replicate, set, drop};
 ghost use Rattle.common.specs.Lists.{at};
-ghost use Rattle.common.specs.Limits.{line_room, most_formulas, greatest_height};
+ghost use Rattle.common.specs.Limits.{line_room, most_formulas};
 ghost use Rattle.common.specs.RefusalNumbers.{outcome_number};
+ghost use Rattle.octets.specs.Line.{frame};
+ghost use Rattle.octets.specs.Answers.{RoomFor, HoldsLine};
 ghost use Rattle.policy.specs.Table.{code};
 ghost use Rattle.policy.specs.Rows.{key};
 ghost use Rattle.lines.specs.NextLine.{next_values, next_of, other_refusal, number_at};
-ghost use Rattle.lines.specs.Judging.{table_of, size_of, row_at, kind_in, fields_of, height_by, refusal_by};
+ghost use Rattle.lines.specs.Judging.{table_of, size_of, privileges_at, row_at, kind_in, fields_of, height_by, refusal_by};
 ghost use Rattle.lines.specs.Judging.{most_line_sum, CursorBound, moved_past, judged_values, judged_of};
 
 use common::{LINE_ROOM, MOST_FORMULAS, Refusal};
@@ -71,10 +73,9 @@ impl TableKind {
 
 // ---- a line's numbers
 
-// A line that was found: its octets, where the next line starts, and the plain sum of the octets.
+// A line that was found: where the next line starts, and the plain sum of its octets. These stand in the room that was lent for them.
 #[derive(Clone, Copy)]
 pub struct Line {
-    pub octets: [u8; LINE_ROOM],
     pub next: usize,
     pub total: usize,
 }
@@ -93,60 +94,71 @@ pub enum Row {
     Method { form: u8, privileges: u64 },
 }
 
-impl Line {
-    // The number that n octets make, from the k-th on, the high octet first: of 2, 4 or 8, where `from_be_bytes` would take three functions.
-    pub fn number_at(&self, k: usize, n: usize) -> u64
-        requires { (n ≤ 8) × (k + n ≤ line_room) }
-        ensures { result ≡ number_at self.now.octets k n }
-    {
-        let mut value: u64 = 0;
-        for octet in &self.octets[k..k + n] {
-            value = value * 256 + u64::from(*octet);
-        }
-        value
+// The number that n octets of a line make, from the k-th on, the high octet first: of 2, 4 or 8, where `from_be_bytes` would take three
+// functions.
+pub fn number_at(octets: &[u8; LINE_ROOM], k: usize, n: usize) -> u64
+    requires { (n ≤ 8) × (k + n ≤ line_room) }
+    ensures { result ≡ number_at octets.now k n }
+{
+    let mut value: u64 = 0;
+    for octet in &octets[k..k + n] {
+        value = value * 256 + u64::from(*octet);
     }
+    value
+}
 
-    // The numbers of a line of a kind.
-    fn row(&self, kind: TableKind) -> Row
-        ensures { result ≡ row_at kind self.now.octets }
-    {
-        let [_, _, a, b, c, ..] = self.octets;
-        match kind {
-            TableKind::Users => Row::User {
-                object: a,
-                roles: u16::from_be_bytes([b, c]),
-            },
-            TableKind::Edges => Row::Edge {
-                label: a,
-                source: b,
-                target: c,
-            },
-            TableKind::Formulas => Row::Formula {
-                op: a,
-                left: b,
-                right: c,
-            },
-            TableKind::Demarcations => Row::Demarcation {
-                privileges: self.number_at(2, 8),
-            },
-            TableKind::Hierarchy => Row::Hierarchy {
-                inferior: a,
-                superior: b,
-            },
-            TableKind::Principals => Row::Principal {
-                formula: a,
-                demarcation: b,
-            },
-            TableKind::Exclusions => Row::Exclusion { low: a, high: b },
-            TableKind::Prerequisites => Row::Prerequisite {
-                needed: a,
-                dependent: b,
-            },
-            TableKind::Methods => Row::Method {
-                form: a,
-                privileges: self.number_at(3, 8),
-            },
-        }
+// The privileges in a line of so many octets: the eight before its check octet; none in a line too short for so many.
+fn privileges_at(octets: &[u8; LINE_ROOM], size: usize) -> u64
+    requires { size ≤ line_room }
+    ensures { result ≡ privileges_at size octets.now }
+{
+    if size <= 10 {
+        return 0;
+    }
+    number_at(octets, size - 9, 8)
+}
+
+// The numbers of a line of a kind and of so many octets.
+fn row_at(kind: TableKind, octets: &[u8; LINE_ROOM], size: usize) -> Row
+    requires { size ≤ line_room }
+    ensures { result ≡ row_at kind size octets.now }
+{
+    let [_, _, a, b, c, ..] = *octets;
+    match kind {
+        TableKind::Users => Row::User {
+            object: a,
+            roles: u16::from_be_bytes([b, c]),
+        },
+        TableKind::Edges => Row::Edge {
+            label: a,
+            source: b,
+            target: c,
+        },
+        TableKind::Formulas => Row::Formula {
+            op: a,
+            left: b,
+            right: c,
+        },
+        TableKind::Demarcations => Row::Demarcation {
+            privileges: privileges_at(octets, size),
+        },
+        TableKind::Hierarchy => Row::Hierarchy {
+            inferior: a,
+            superior: b,
+        },
+        TableKind::Principals => Row::Principal {
+            formula: a,
+            demarcation: b,
+        },
+        TableKind::Exclusions => Row::Exclusion { low: a, high: b },
+        TableKind::Prerequisites => Row::Prerequisite {
+            needed: a,
+            dependent: b,
+        },
+        TableKind::Methods => Row::Method {
+            form: a,
+            privileges: privileges_at(octets, size),
+        },
     }
 }
 
@@ -175,22 +187,21 @@ impl Row {
 
 // ---- what refuses them
 
-// The heights of the formulas read so far.
+// The heights of the formulas read so far: each small enough for one more to be an octet.
 #[derive(Drop)]
 pub struct Heights {
     of: [u8; MOST_FORMULAS],
 }
 
 impl Model for Heights {
-    ghost use Rattle.std.specs.Prelude.{ℕ, ◌≤◌, List};
+    ghost use Rattle.std.specs.Prelude.{ℕ, ◌<◌, List};
     ghost use Rattle.common.specs.Lists.{at};
-    ghost use Rattle.common.specs.Limits.{greatest_height};
 
     ghost Value = { List ℕ };
 
     ghost view = { λ heights. heights.of };
 
-    ghost invariant = { λ heights. (g : ℕ) → at heights.of g ≤ greatest_height };
+    ghost invariant = { λ heights. (g : ℕ) → at heights.of g < 255 };
 }
 
 impl Heights {
@@ -205,7 +216,7 @@ impl Heights {
 
     // Keeps the height of a formula.
     pub fn keep(&mut self, formula: usize, height: u8)
-        requires { (formula < most_formulas) × (height ≤ greatest_height) }
+        requires { (formula < most_formulas) × (height < 255) }
         ensures { self.new ≡ set self.old formula height }
     {
         self.of[formula] = height;
@@ -346,14 +357,20 @@ impl<'a> Reader<'a> {
         Err(Refusal::WrongKind)
     }
 
-    // The line at an offset, as one of a kind, whose lines have so many octets. None at the text's end, or where it is of another kind.
-    pub fn next_line(&self, offset: usize, kind: u8, size: usize) -> Result<Option<Line>, Refusal>
-        requires { size ≤ line_room }
-        ensures { next_values result ≡ next_of self.now offset kind size }
+    // The line at an offset, as one of a kind, whose lines have so many octets; these are put into a room for them. None at the text's
+    // end, or where it is of another kind.
+    pub fn next_line(
+        &self,
+        offset: usize,
+        kind: u8,
+        size: usize,
+        octets: &mut [u8; LINE_ROOM],
+    ) -> Result<Option<Line>, Refusal>
+        requires { RoomFor size octets.old }
+        ensures line { next_values result ≡ next_of self.now offset kind size }
+        ensures octets { HoldsLine size (frame (drop offset self.now)) octets.old octets.new }
     {
-        let mut octets = [0u8; LINE_ROOM];
-        let Some(total) = octets::sized_line(self.text, offset, size, &self.digits, &mut octets)
-        else {
+        let Some(total) = octets::sized_line(self.text, offset, size, &self.digits, octets) else {
             self.check_other(offset, kind)?;
             return Ok(None);
         };
@@ -361,27 +378,29 @@ impl<'a> Reader<'a> {
             return Ok(None);
         }
         Ok(Some(Line {
-            octets,
             next: offset + 2 * size + 1,
             total,
         }))
     }
 
-    // Judges the line at the cursor as one of a kind. None where there is no further line of that kind.
+    // Judges the line at the cursor as one of a kind, whose lines have so many octets. None where there is no further line of that kind.
     pub fn judged_line(
         &self,
         cursor: Cursor,
         kind: TableKind,
+        size: usize,
         bounds: Bounds,
         heights: &Heights,
     ) -> Result<Option<Taken>, Refusal>
-        requires { CursorBound cursor }
-        ensures { judged_values result ≡ judged_of self.now cursor kind bounds (at heights.now) }
+        requires bound { CursorBound cursor }
+        requires size { size ≤ line_room }
+        ensures { judged_values result ≡ judged_of self.now cursor kind size bounds (at heights.now) }
     {
-        let Some(line) = self.next_line(cursor.offset, kind.code(), kind.size())? else {
+        let mut octets = [0; LINE_ROOM];
+        let Some(line) = self.next_line(cursor.offset, kind.code(), size, &mut octets)? else {
             return Ok(None);
         };
-        let row = line.row(kind);
+        let row = row_at(kind, &octets, size);
         let height = heights.height_of(row);
         bounds.check(height, row)?;
         Ok(Some(Taken {

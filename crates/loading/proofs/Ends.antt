@@ -1,14 +1,16 @@
 -- The last line: what loading makes of an empty text, of an end line, and of what follows it.
-use Rattle.std.specs.Prelude.{ℕ, ◌+◌, ◌≤◌, ◌<◌, ◌≡◌, refl, ◌≢◌, Bool, true, false, not, cond, ◌&&◌, ◌||◌, List, [], ◌∷◌, length, drop, eqb, Ok}
+use Rattle.std.specs.Prelude.{ℕ, ◌+◌, ◌≤◌, ◌<◌, ◌≡◌, refl, ◌≢◌, Bool, true, false, not, cond, ◌&&◌, ◌||◌, List, [], ◌∷◌, length, drop, replicate, eqb, Ok}
 use Rattle.std.proofs.Common.{sym, ◌∙◌, ap, arith, eq-eqb, ne_eqb, length-drop}
 use Rattle.std.proofs.Math.Decide.{ℕ_discrete}
 use Rattle.std.proofs.Math.ListN.{drop_of_length-le}
 use Rattle.common.specs.Lists.{at}
+use Rattle.common.specs.Limits.{line_room}
 use Rattle.common.specs.BoolLaws.{and_false}
 use Rattle.common.specs.Refusals.{wrong_kind, wrong_end}
 use Rattle.common.specs.Refusals as refusals
 use Rattle.closure.specs.Closure.{circular}
 use Rattle.octets.specs.Line.{Framed, refused, octets, kind_octet, rest_of, frame, lines}
+use Rattle.octets.specs.Answers.{HoldsLine}
 use Rattle.octets.proofs.LineLaws.{accepted, lines_none, lines_cons}
 use Rattle.policy.specs.declared.Record.{Record}
 use Rattle.policy.specs.Table.{hierarchy, prerequisite, end, code, rows, appended, indexed, kind_of}
@@ -82,7 +84,8 @@ module _ (text : List ℕ) (s : Stage) (r : Ready text end s) where
   finish_unread n e =
       sym (on ∙ (refused_reading (reading s) text s.cursor.offset end 9 n refl (refused_line_lem text s.cursor.offset 0xFF 9 e)).1)
 
-  module _ {next sum : ℕ} {filled : List ℕ} (f : FoundLine text s.cursor.offset 0xFF 9 next sum filled) where
+  module _ {next sum : ℕ} (f : FoundLine text s.cursor.offset 0xFF 9 next sum) {filled : List ℕ}
+      (held : HoldsLine 9 (frame (rest text s)) (replicate line_room 0) filled) where
     known : kind_of (kind_octet f.os) ≡ end
     known = ap kind_of f.ours
 
@@ -109,7 +112,7 @@ module _ (text : List ℕ) (s : Stage) (r : Ready text end s) where
         → not_loaded wrong_end (s.cursor.lines + 1) ≡ loaded_from text (Ok s)
     finish_count {n} e h =
         sym (on ∙ read_not (reading s) text s.cursor.offset f.within f.framed end known
-        (end_refusal ∙ rw (ne_eqb (number_at f.os 2 2) s.cursor.lines (λ q. h (e ∙ found_number f 2 2 ∙ q)))) (λ q. omega arith))
+        (end_refusal ∙ rw (ne_eqb (number_at f.os 2 2) s.cursor.lines (λ q. h (e ∙ found_number f held 2 2 ∙ q)))) (λ q. omega arith))
 
     pub finish_sum : {n : ℕ} → n ≡ number_at filled 4 4 → n ≢ s.cursor.sum
         → not_loaded wrong_end (s.cursor.lines + 1) ≡ loaded_from text (Ok s)
@@ -117,7 +120,7 @@ module _ (text : List ℕ) (s : Stage) (r : Ready text end s) where
         sym (on ∙ read_not (reading s) text s.cursor.offset f.within f.framed end known
         (end_refusal
         ∙ rw (
-          ne_eqb (number_at f.os 4 4) s.cursor.sum (λ q. h (e ∙ found_number f 4 4 ∙ q)),
+          ne_eqb (number_at f.os 4 4) s.cursor.sum (λ q. h (e ∙ found_number f held 4 4 ∙ q)),
           and_false
               (eqb (number_at f.os 2 2) s.cursor.lines),
         )) (λ q. omega arith))
@@ -131,9 +134,9 @@ module _ (text : List ℕ) (s : Stage) (r : Ready text end s) where
         ∙ read_on (reading s) text s.cursor.offset f.within f.framed end known
         (end_refusal
         ∙ rw (
-          eq-eqb (number_at f.os 2 2) s.cursor.lines (sym (e ∙ found_number f 2 2) ∙ e'),
+          eq-eqb (number_at f.os 2 2) s.cursor.lines (sym (e ∙ found_number f held 2 2) ∙ e'),
           eq-eqb (number_at f.os 4 4) s.cursor.sum
-              (sym (g ∙ found_number f 4 4) ∙ g'),
+              (sym (g ∙ found_number f held 4 4) ∙ g'),
         ))
         ∙ read_ended (after_line (reading s) end f.os) _ refl
         ∙ ap (λ (n : ℕ). after_end (s.cursor.lines + 1) s.rules (lines (drop n text))) (sym f.follows))

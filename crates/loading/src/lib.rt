@@ -9,10 +9,10 @@ ghost use Rattle.reading.specs.Loaded.{loaded_values};
 ghost use Rattle.reading.specs.Loading as loading;
 ghost use Rattle.reading.specs.Stages.{loaded_from, ended_at, CirclesReady, Ready};
 
-use common::Refusal;
+use common::{LINE_ROOM, Refusal};
 use edge_index::EdgeIndex;
 use edge_index::edges::Edges;
-use lines::{Reader, TableKind};
+use lines::{Reader, TableKind, number_at};
 use policy::Record;
 use policy::loadable::has_circles;
 use reading::{BadLine, Stage, read_head, read_kind};
@@ -67,11 +67,15 @@ fn finish(reader: &Reader, from: Stage) -> Result<Record, BadLine>
     if reader.text.len() <= cursor.offset {
         return Err(bad(Refusal::WrongEnd));
     }
-    let Some(last) = reader.next_line(cursor.offset, 0xFF, 9).map_err(bad)? else {
+    let mut octets = [0; LINE_ROOM];
+    let Some(last) = reader
+        .next_line(cursor.offset, 0xFF, 9, &mut octets)
+        .map_err(bad)?
+    else {
         return Err(bad(Refusal::WrongKind));
     };
-    let count = last.number_at(2, 2);
-    let sum = last.number_at(4, 4);
+    let count = number_at(&octets, 2, 2);
+    let sum = number_at(&octets, 4, 4);
     if count != cursor.lines as u64 || sum != cursor.sum as u64 {
         return Err(bad(Refusal::WrongEnd));
     }

@@ -1,3 +1,3 @@
-mod Places
+pub mod Places
 mod Memos
 mod Weighing

@@ -17,5 +17,3 @@ formula_named r p loads l = (principal_named r (loadable_table r loads) p l).0
 
 pub formula_placed : (r : Record) (p : ℕ) → loadable r ≡ true → p < r.principal_count → formula_of r p < most_formulas
 formula_placed r p loads l = formulas_in_memo r (loadable_table r loads) p l
-
-pub ruleset places = (principals_few, formula_named, formula_placed)

@@ -6,6 +6,8 @@ use Rattle.policy.specs.declared.Memo.{Memo}
 use Rattle.policy.specs.Table.{emptied}
 use Rattle.formula.specs.Requests.{Asked}
 use Rattle.formula.specs.Formula.{holds}
+use Rattle.formula.specs.Evaluation.{true_at_object}
+use Rattle.evaluation.specs.declared.context.ObjectContext.{ObjectContext}
 use Rattle.justification.specs.declared.Question.{Question}
 
 abbrev pub known : Memo → ℕ → Bool
@@ -20,6 +22,10 @@ noted m f v = record { object = m.object; requestor = m.requestor; known = set m
 -- what formula f comes to, evaluated afresh at the object of a request
 abbrev pub truth_for : Asked → ℕ → Bool
 truth_for q f = holds q.rules f q.object q.object q.requestor
+
+-- what formula f comes to at the object of a context
+abbrev pub truth_in : ObjectContext → ℕ → Bool
+truth_in c f = true_at_object c.rules c.roles c.object c.requestor f
 
 -- formula f evaluated, unless known; `truth f` is what evaluation comes to
 unfoldable pub evaluated : (ℕ → Bool) → Memo → ℕ → Memo

@@ -5,8 +5,8 @@ use Rattle.std.proofs.Math.Path.{refl, ap}
 use Rattle.std.proofs.Math.Bool.{not, cond}
 use mathlib.Core.List.{List, [], ◌∷◌, ◌++◌}
 use Rattle.std.proofs.Math.Option.{Option, none, some}
-use Rattle.std.proofs.Common.{arith, add-one}
-use Rattle.common.specs.Lists.{every, below}
+use Rattle.std.proofs.Common.{◌∙◌, arith, add-one}
+use Rattle.common.specs.Lists.{at, every, those, below}
 use Rattle.common.specs.Sets.{member}
 use Rattle.policy.specs.declared.Record.{Record}
 use Rattle.policy.specs.declared.Memo.{Memo}
@@ -56,6 +56,34 @@ evaluated_more truth r m n = rw add-one (go m (below n))
     go : (k : Memo) (l : List ℕ) → evaluated_all truth r k (l ++ (n ∷ [])) ≡ evaluated truth (evaluated_all truth r k l) (formula_of r n)
     go k [] = refl
     go k (p ∷ l) = go (evaluated truth k (formula_of r p)) l
+
+-- ---- of a record the steps read its principals alone
+
+module _ (truth : ℕ → Bool) (r s : Record) (formulas : r.principal_formulas ≡ s.principal_formulas) where
+  list_evaluated_alike : (ps : List ℕ) (m : Memo) → evaluated_all truth r m ps ≡ evaluated_all truth s m ps
+  unfolding evaluated_all
+  list_evaluated_alike [] m = refl
+  list_evaluated_alike (p ∷ ps) m =
+      ap (λ (l : List ℕ). evaluated_all truth r (evaluated truth m (at l p)) ps) formulas
+      ∙ list_evaluated_alike ps (evaluated truth m (formula_of s p))
+
+  list_tried_alike : (ps : List ℕ) (m : Memo) → tried truth r m ps ≡ tried truth s m ps
+  unfolding tried
+  list_tried_alike [] m = refl
+  list_tried_alike (p ∷ ps) m =
+      ap (λ (l : List ℕ). cond (value (evaluated truth m (at l p)) (at l p)) (tried truth r (evaluated truth m (at l p)) ps)
+      (ends (evaluated truth m (at l p)))) formulas
+      ∙ ap (λ (w : Weighed). cond (value n (formula_of s p)) w (ends n)) (list_tried_alike ps n)
+    where
+      n : Memo
+      n = evaluated truth m (formula_of s p)
+
+  module _ (count : r.principal_count ≡ s.principal_count) where
+    pub evaluated_alike : (m : Memo) → evaluated_all truth r m (below r.principal_count) ≡ evaluated_all truth s m (below s.principal_count)
+    evaluated_alike m = ap (λ (n : ℕ). evaluated_all truth r m (below n)) count ∙ list_evaluated_alike (below s.principal_count) m
+
+    pub tried_alike : (m : Memo) (c : ℕ) → tried truth r m (members r c) ≡ tried truth s m (members s c)
+    tried_alike m c = ap (λ (n : ℕ). tried truth r m (those (λ p. member p c) (below n))) count ∙ list_tried_alike (members s c) m
 
 -- ---- truth matters only at the principals' formulas
 

@@ -8,15 +8,18 @@ ghost use Rattle.common.specs.Limits.{most_formulas};
 ghost use Rattle.common.specs.Lists.{below};
 ghost use Rattle.justification.specs.Justification.{members};
 ghost use Rattle.justification.specs.MarkedSets.{Marks};
-ghost use Rattle.memo.specs.Memo.{value, memo_for, truth_for};
+ghost use Rattle.memo.specs.Memo.{value, memo_for, truth_in};
 ghost use Rattle.memo.specs.Memo as memos;
 ghost use Rattle.memo.specs.Walk.{evaluated_all, formula_of, known_false, tried, weighed_of};
 ghost use Rattle.memo.specs.WalkLaws.{MemoLengths};
 
+pub mod principals;
+
 use common::MOST_FORMULAS;
-use formula::request::Request;
+use evaluation::context::ObjectContext;
 use justification::Question;
 use policy::Memo;
+use principals::Principals;
 
 // What weighing a candidate came to: whether all its members are enabled, and the memo as it then is.
 #[derive(Clone, Copy)]
@@ -56,71 +59,82 @@ pub fn newly(before: Memo, after: Memo) -> u8
     gained(&before.known, &after.known) as u8
 }
 
-// Principal p's formula: it is one of the rules' formulas, and has a place in the memo.
-#[tactic(auto, using(crate::proofs::Places::places))]
-fn formula_of(request: &Request<'_>, p: usize) -> usize
-    requires { p < request.now.rules.principal_count }
-    ensures named { (result ≡ formula_of request.now.rules p) × (result < request.now.rules.formula_count) }
-    ensures placed { result < most_formulas }
+// Principal p's formula: it has a place in the memo.
+fn formula_of(principals: &Principals<'_>, p: usize) -> usize
+    requires { p < principals.now.principal_count }
+    ensures { (result ≡ formula_of principals.now p) × (result < most_formulas) }
 {
-    usize::from(request.columns.principal_formulas[p])
+    usize::from(principals.columns.principal_formulas[p])
 }
 
-// Formula f evaluated at the request's object, unless known.
+// Formula f evaluated at the object, unless known.
 #[tactic(auto, unfolding(crate::specs::Memo::evaluated))]
-fn evaluated(request: &Request<'_>, mut memo: Memo, f: usize) -> Memo
-    requires { (f < request.now.rules.formula_count) × (f < most_formulas) }
-    ensures { result ≡ memos.evaluated (truth_for request.now) memo f }
+fn evaluated(context: &ObjectContext<'_>, mut memo: Memo, f: usize) -> Memo
+    requires { f < most_formulas }
+    ensures { result ≡ memos.evaluated (truth_in context.now) memo f }
 {
     if !memo.known[f] {
         memo.known[f] = true;
-        memo.value[f] = evaluation::holds(request, f);
+        memo.value[f] = evaluation::true_at_object(
+            &context.rules,
+            context.roles,
+            context.object,
+            context.requestor,
+            f,
+        );
     }
     memo
 }
 
 // Each principal in rising number has its formula evaluated, unless known.
 #[tactic(auto, using(crate::specs::StepLaws::evaluated_more), unfolding(crate::specs::Walk::evaluated_all))]
-pub fn evaluated_all(request: &Request<'_>, mut memo: Memo) -> Memo
-    ensures { result ≡ evaluated_all (truth_for request.now) request.now.rules memo (below request.now.rules.principal_count) }
+pub fn evaluated_all(
+    principals: &Principals<'_>,
+    context: &ObjectContext<'_>,
+    mut memo: Memo,
+) -> Memo
+    ensures { result ≡ evaluated_all (truth_in context.now) principals.now memo (below principals.now.principal_count) }
 {
-    for p in 0..request.columns.principal_count {
-        memo = evaluated(request, memo, formula_of(request, p));
+    for p in 0..principals.columns.principal_count {
+        memo = evaluated(context, memo, formula_of(principals, p));
     }
     memo
 }
 
 // The principals with the value true in the memo.
-#[tactic(auto, using(crate::proofs::Places::principals_few))]
-pub fn valued(request: &Request<'_>, memo: Memo) -> u32
-    ensures { Marks request.now.rules.principal_count (λ p. value memo (formula_of request.now.rules p)) result }
+pub fn valued(principals: &Principals<'_>, memo: Memo) -> u32
+    ensures { Marks principals.now.principal_count (λ p. value memo (formula_of principals.now p)) result }
 {
     justification::set_of(
-        request.columns.principal_count,
-        |p| memo.value[formula_of(request, p)],
+        principals.columns.principal_count,
+        |p| memo.value[formula_of(principals, p)],
     )
 }
 
 // The principals that are not known false.
-#[tactic(auto, using(crate::proofs::Places::principals_few))]
-pub fn not_known_false(request: &Request<'_>, memo: Memo) -> u32
-    ensures { Marks request.now.rules.principal_count (λ p. not (known_false request.now.rules memo p)) result }
+pub fn not_known_false(principals: &Principals<'_>, memo: Memo) -> u32
+    ensures { Marks principals.now.principal_count (λ p. not (known_false principals.now memo p)) result }
 {
-    justification::set_of(request.columns.principal_count, |p| {
-        let f = formula_of(request, p);
+    justification::set_of(principals.columns.principal_count, |p| {
+        let f = formula_of(principals, p);
         !(memo.known[f] && !memo.value[f])
     })
 }
 
 // The members of c in rising number are evaluated, unless known; the first that is not enabled ends it.
-#[tactic(auto, using(crate::proofs::Places::principals_few, crate::proofs::Weighing::weighing))]
-pub fn weigh(request: &Request<'_>, mut memo: Memo, c: u32) -> Tried
-    ensures { weighed_of result ≡ tried (truth_for request.now) request.now.rules memo (members request.now.rules c) }
+#[tactic(auto, using(crate::proofs::Weighing::weighing))]
+pub fn weigh(
+    principals: &Principals<'_>,
+    context: &ObjectContext<'_>,
+    mut memo: Memo,
+    c: u32,
+) -> Tried
+    ensures { weighed_of result ≡ tried (truth_in context.now) principals.now memo (members principals.now c) }
 {
-    for p in 0..request.columns.principal_count {
+    for p in 0..principals.columns.principal_count {
         if search::has(c, p) {
-            let f = formula_of(request, p);
-            memo = evaluated(request, memo, f);
+            let f = formula_of(principals, p);
+            memo = evaluated(context, memo, f);
             if !memo.value[f] {
                 return Tried {
                     survives: false,

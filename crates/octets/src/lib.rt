@@ -31,7 +31,7 @@ pub fn digit_values() -> [u8; 256]
 }
 
 // What the table has at a byte.
-fn looked_up(digits: &[u8; 256], c: u8) -> u8
+pub fn looked_up(digits: &[u8; 256], c: u8) -> u8
     requires { IsDigitTable digits.now }
     ensures { result ≡ digit_value c }
 {

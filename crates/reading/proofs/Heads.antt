@@ -1,14 +1,15 @@
 -- The first line: what loading makes of a head.
-use Rattle.std.specs.Prelude.{ℕ, ◌+◌, ◌<◌, ◌≡◌, refl, true, false, not, ◌&&◌, List, [], ◌∷◌, length, drop, leb, eqb, Ok, Err}
+use Rattle.std.specs.Prelude.{ℕ, ◌+◌, ◌<◌, ◌≡◌, refl, true, false, not, ◌&&◌, List, [], ◌∷◌, length, drop, replicate, leb, eqb, Ok, Err}
 use Rattle.std.proofs.Common.{sym, ◌∙◌, ap, arith, ne_eqb}
 use Rattle.std.proofs.Math.Decide.{ℕ_discrete}
-use Rattle.common.specs.Limits.{most_objects}
+use Rattle.common.specs.Limits.{most_objects, line_room}
 use Rattle.common.specs.Causes.{first}
 use Rattle.common.specs.Lists.{at}
 use Rattle.common.specs.RefusalNumbers.{number}
 use Rattle.common.specs.declared.Refusal.{Refusal}
 use Rattle.common.specs.declared.Refusal.TheVariants.{WrongKind}
-use Rattle.octets.specs.Line.{kind_octet, body_of, lines}
+use Rattle.octets.specs.Line.{kind_octet, body_of, lines, frame}
+use Rattle.octets.specs.Answers.{HoldsLine}
 use Rattle.octets.proofs.LineLaws.{accepted}
 use Rattle.policy.specs.Table.{head, code, is_kind, blank, appended, kind_of}
 use Rattle.rows.specs.Checks.{causes}
@@ -55,7 +56,8 @@ module _ (text : List ℕ) where
       starts_not WrongKind
       (read_not t text 0 l f k refl (refused_place t k os (misplaced_first t k os refl h)) (λ z. omega arith))
 
-  module _ {next sum : ℕ} {filled : List ℕ} (f : FoundLine text 0 0x01 5 next sum filled) where
+  module _ {next sum : ℕ} (f : FoundLine text 0 0x01 5 next sum) {filled : List ℕ}
+      (held : HoldsLine 5 (frame (drop 0 text)) (replicate line_room 0) filled) where
     -- the octets in the room are the numbers of the head
     abbrev pub version : ℕ
     version = at filled 2
@@ -66,7 +68,7 @@ module _ (text : List ℕ) where
     v : numbers head f.os ≡ version ∷ objects ∷ []
     v =
         numbers_are f.os 2 f.sized head refl
-        ∙ sym (λ i. (found_octet f 2 ∙ one_octet f.os 2) i ∷ (found_octet f 3 ∙ one_octet f.os 3) i ∷ [])
+        ∙ sym (λ i. (found_octet f held 2 ∙ one_octet f.os 2) i ∷ (found_octet f held 3 ∙ one_octet f.os 3) i ∷ [])
 
     sizes : length (body_of f.os) ≡ 2
     sizes = let h = (accepted f.framed).long in let u = body_length f.os (omega arith) in let z = f.sized in omega arith

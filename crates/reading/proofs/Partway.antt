@@ -123,7 +123,7 @@ module _ (text : List ℕ) (k : Kind) (p : HasTable k) (start : Stage) (c : Curs
 
   -- ---- a line of kind k
 
-  module _ {next sum : ℕ} {filled : List ℕ} (f : FoundLine text c.offset (code k) (size_of k) next sum filled) where
+  module _ {next sum : ℕ} (f : FoundLine text c.offset (code k) (size_of k) next sum) where
     known : kind_of (kind_octet f.os) ≡ k
     known = ap kind_of f.ours ∙ kind_of_code k
 

@@ -52,7 +52,7 @@ three : (os : List ℕ) → fields_at os (1 ∷ 1 ∷ 1 ∷ []) 2 ≡ at os 2 �
 three os = sym (λ i. one_octet os 2 i ∷ one_octet os 3 i ∷ one_octet os 4 i ∷ [])
 
 -- the numbers of a line's body, and the kind whose they are
-row_numbers : (kind : TableKind) (os : List ℕ) → fields_at os (widths (table_of kind)) 2 ≡ fields_of (row_at kind os)
+row_numbers : (kind : TableKind) (os : List ℕ) → fields_at os (widths (table_of kind)) 2 ≡ fields_of (row_at kind (size_of (table_of kind)) os)
 row_numbers Users os = sym (λ i. one_octet os 2 i ∷ two_octets_lem os 3 i ∷ [])
 row_numbers Edges os = three os
 row_numbers Formulas os = three os
@@ -63,7 +63,7 @@ row_numbers Exclusions os = two os
 row_numbers Prerequisites os = two os
 row_numbers Methods os = sym (λ i. one_octet os 2 i ∷ fields_at os (8 ∷ []) 3)
 
-row_kind : (kind : TableKind) (os : List ℕ) → kind_in (row_at kind os) ≡ table_of kind
+row_kind : (kind : TableKind) (os : List ℕ) → kind_in (row_at kind (size_of (table_of kind)) os) ≡ table_of kind
 row_kind Users os = refl
 row_kind Edges os = refl
 row_kind Formulas os = refl
@@ -197,17 +197,17 @@ module _ (kind : TableKind) where
     taken_bound = cursor_bound text k g.partway
 
     -- no line of the kind is left
-    taken_all : next_of text c.offset (code k) (size_of k) ≡ no_line → Reads text k start (Ok (stage c r))
+    pub taken_all : next_of text c.offset (code k) (size_of k) ≡ no_line → Reads text k start (Ok (stage c r))
     taken_all e = partway_done text k (has_table kind) start c r g.partway e
 
     -- ---- a line of the kind
 
-    module _ {next sum : ℕ} {filled : List ℕ} (e : next_of text c.offset (code k) (size_of k) ≡ body_line next sum filled) where
-      found : FoundLine text c.offset (code k) (size_of k) next sum filled
+    module _ {next sum : ℕ} (e : next_of text c.offset (code k) (size_of k) ≡ body_line next sum) where
+      found : FoundLine text c.offset (code k) (size_of k) next sum
       found = found_line text c.offset (code k) (size_of k) e
 
       v : Row
-      v = row_at kind (octets_at text c.offset)
+      v = row_at kind (size_of k) (octets_at text c.offset)
 
       of_kind : kind_in v ≡ k
       unfolding v
@@ -218,10 +218,10 @@ module _ (kind : TableKind) where
       fields =
           numbers_are found.os (total (widths k)) found.sized k refl
           ∙ row_numbers kind found.os
-          ∙ ap (λ (f : Framed). fields_of (row_at kind (octets_in f))) (sym found.framed)
+          ∙ ap (λ (f : Framed). fields_of (row_at kind (size_of k) (octets_in f))) (sym found.framed)
 
       refusal :
-          refusal_here text c kind (bounds_of r n least) (at heights) ≡ row_refusal k (count k r) r (numbers k found.os)
+          refusal_here text c kind (size_of k) (bounds_of r n least) (at heights) ≡ row_refusal k (count k r) r (numbers k found.os)
       unfolding v
       refusal =
           ap (λ (m : ℕ). refusal_by (bounds_of r m least) (height_by v (at heights)) v) g.counted
@@ -230,24 +230,24 @@ module _ (kind : TableKind) where
           ∙ (λ i. row_refusal (of_kind i) (count k r) r (sym fields i))
 
     -- it is refused
-    pub taken_refused : (why : Refusal) → judged_values (Err why) ≡ judged_of text c kind (bounds_of r n least) (at heights)
+    pub taken_refused : (why : Refusal) → judged_values (Err why) ≡ judged_of text c kind (size_of k) (bounds_of r n least) (at heights)
         → Reads text k start (Err (refused_at c why))
-    taken_refused why e = go (values_say text c kind (bounds_of r n least) (at heights) (Err why) e)
+    taken_refused why e = go (values_say text c kind (size_of k) (bounds_of r n least) (at heights) (Err why) e)
       where
-        go : Refuses text c kind (bounds_of r n least) (at heights) (number why) → Reads text k start (Err (refused_at c why))
+        go : Refuses text c kind (size_of k) (bounds_of r n least) (at heights) (number why) → Reads text k start (Err (refused_at c why))
         go (as_line f) = partway_unread text k (has_table kind) start c r g.partway why f
         go (by_numbers f z h) = partway_refused text k (has_table kind) start c r g.partway (found f) why (z ∙ refusal f)
 
     -- there is none
-    pub taken_none : judged_values (Ok None) ≡ judged_of text c kind (bounds_of r n least) (at heights) → Reads text k start (Ok (stage c r))
-    taken_none e = taken_all (values_say text c kind (bounds_of r n least) (at heights) (Ok None) e)
+    pub taken_none : judged_values (Ok None) ≡ judged_of text c kind (size_of k) (bounds_of r n least) (at heights) → Reads text k start (Ok (stage c r))
+    taken_none e = taken_all (values_say text c kind (size_of k) (bounds_of r n least) (at heights) (Ok None) e)
 
     -- it is taken
-    pub taken_one : {t : Taken} → judged_values (Ok (Some t)) ≡ judged_of text c kind (bounds_of r n least) (at heights)
-        → Takes text c kind (bounds_of r n least) (at heights) t
-    taken_one {t} e = values_say text c kind (bounds_of r n least) (at heights) (Ok (Some t)) e
+    pub taken_one : {t : Taken} → judged_values (Ok (Some t)) ≡ judged_of text c kind (size_of k) (bounds_of r n least) (at heights)
+        → Takes text c kind (size_of k) (bounds_of r n least) (at heights) t
+    taken_one {t} e = values_say text c kind (size_of k) (bounds_of r n least) (at heights) (Ok (Some t)) e
 
-    module _ {t : Taken} (takes : Takes text c kind (bounds_of r n least) (at heights) t) where
+    module _ {t : Taken} (takes : Takes text c kind (size_of k) (bounds_of r n least) (at heights) t) where
       passes : row_refusal k (count k r) r (numbers k (found takes.found).os) ≡ 0
       passes = sym (refusal takes.found) ∙ takes.passes
 
@@ -285,7 +285,7 @@ module _ (kind : TableKind) where
       pub taken_height : t.height ≤ greatest_height
       taken_height =
           rw (ap (λ (o : Taken). o.height) takes.same)
-          (height_low (bounds_of r n least) (at heights) (row_at kind (octets_at text c.offset)) takes.passes)
+          (height_low (bounds_of r n least) (at heights) (row_at kind (size_of k) (octets_at text c.offset)) takes.passes)
 
       pub taken_more : {after : Record} → after ≡ appended (kind_in t.row) r (fields_of t.row)
           → {tall : List ℕ} → (k ≡ formula → tall ≡ set heights n t.height)

@@ -7,7 +7,7 @@ ghost use Rattle.policy.specs.Table.{count, room, appended};
 ghost use Rattle.lines.specs.Judging.{table_of, kind_in, fields_of};
 ghost use Rattle.reading.specs.Stages.{Ready, Starts, Reads};
 
-use common::Refusal;
+use common::{LINE_ROOM, Refusal};
 use lines::{Bounds, Cursor, Heights, Reader, Row, TableKind};
 use policy::Record;
 
@@ -31,11 +31,12 @@ pub fn read_head(reader: &Reader) -> Result<Stage, BadLine>
     ensures { Starts reader.now result }
 {
     let bad = |refusal| BadLine { refusal, line: 1 };
-    let Some(line) = reader.next_line(0, 0x01, 5).map_err(bad)? else {
+    let mut octets = [0; LINE_ROOM];
+    let Some(line) = reader.next_line(0, 0x01, 5, &mut octets).map_err(bad)? else {
         return Err(bad(Refusal::WrongKind));
     };
-    let version = line.octets[2];
-    let objects = line.octets[3];
+    let version = octets[2];
+    let objects = octets[3];
     rows::check_head(version, objects).map_err(bad)?;
     let top = Cursor {
         offset: 0,
@@ -147,7 +148,7 @@ pub fn read_kind(reader: &Reader, kind: TableKind, from: Stage) -> Result<Stage,
         };
         let line = cursor.lines + 1;
         let Some(taken) = reader
-            .judged_line(cursor, kind, bounds, &heights)
+            .judged_line(cursor, kind, kind.size(), bounds, &heights)
             .map_err(move |refusal| BadLine { refusal, line })?
         else {
             return Ok(Stage { cursor, rules });

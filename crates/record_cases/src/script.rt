@@ -26,7 +26,7 @@ fn change(rules: &mut Record, loaded: &Record, [code, a, b, c]: [u8; 4]) {
         0 => *rules = *loaded,
         1 => *rules = policy::blank(),
         2 => set_full_graph(rules),
-        _ => set_number(rules, code, u16::from_be_bytes([a, b]), c),
+        _ => set_number(rules, code, usize::from(u16::from_be_bytes([a, b])), c),
     }
 }
 

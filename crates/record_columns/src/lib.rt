@@ -19,18 +19,17 @@ use policy::{Memo, Record};
 // ---- numbers set
 
 // Sets a number. A count takes the row for its value, FFFF for the largest number that there is.
-pub fn set_number(rules: &mut Record, column: u8, row: u16, value: u8) {
-    let place = usize::from(row);
+pub fn set_number(rules: &mut Record, column: u8, row: usize, value: u8) {
     match column {
-        0x10 => rules.objects = row.to_be_bytes()[1],
+        0x10 => rules.objects = (row % 256) as u8,
         0x29 | 0x39 | 0x49 | 0x59 | 0x69 | 0x79 | 0x89 | 0x99 | 0xA9 => {
-            let count = if row == u16::MAX { usize::MAX } else { place };
+            let count = if row == 0xFFFF { usize::MAX } else { row };
             set_count(rules, column, count);
         }
-        0x21 | 0x50 | 0xA1 => set_wide(rules, column, place, value),
-        0xB0..=0xB3 => set_memo(&mut rules.memo, column, place, value),
-        0xC0..=0xC2 => set_index(&mut rules.index, column, place, u16::from(value)),
-        _ => set_octet(rules, column, place, value),
+        0x21 | 0x50 | 0xA1 => set_wide(rules, column, row, value),
+        0xB0..=0xB3 => set_memo(&mut rules.memo, column, row, value),
+        0xC0..=0xC2 => set_index(&mut rules.index, column, row, u16::from(value)),
+        _ => set_octet(rules, column, row, value),
     }
 }
 

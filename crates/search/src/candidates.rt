@@ -44,7 +44,7 @@ impl Masks {
     }
 
     // Whether p excludes no member of s, and all that p needs are members of s.
-    fn consistent_in(&self, s: u32, p: usize) -> bool
+    pub fn consistent_in(&self, s: u32, p: usize) -> bool
         requires { p < most_principals }
         ensures { Decides result (ConsistentIn self.now s p) }
     {

@@ -1,9 +1,9 @@
--- Passes over positions: what they go over, and what they mark.
+-- Passes over positions: what they go over, which edges these are, and what they mark.
 use Rattle.std.specs.Prelude.{ℕ, ◌≤◌, ◌<◌, ◌≡◌, Bool, true, List, length, Option, None, Some}
 use Rattle.common.specs.Lists.{at}
 use Rattle.common.specs.Limits.{most_edges}
 use Rattle.common.specs.Halving.{Parted}
-use Rattle.edge_index.specs.Spans.{place_at, Span}
+use Rattle.edge_index.specs.Spans.{place_at, Listed, Passable}
 use Rattle.vertices.specs.Steps.{is_in, edges_in}
 
 -- the columns, and the positions in them
@@ -22,6 +22,14 @@ pub record Passed : Type 0 where
 abbrev pub edges_along : Passed → List (List ℕ)
 edges_along p = edges_in p.edge_count p.labels p.starts p.ends
 
+-- the positions are those of the edges with the label l, of n edges with these labels, and of no others
+abbrev pub PositionsOf : Passed → ℕ → List ℕ → ℕ → Type 0
+PositionsOf p n labels l = Listed n labels l p.first p.stop (place_at p.backward p.places)
+
+-- they are those of the pass's own label, in its own columns
+abbrev pub OfLabel : Passed → Type 0
+OfLabel p = PositionsOf p p.edge_count p.labels p.label
+
 -- the vertex that a column has for the edge at position p; where the edge at a position starts, and where it ends
 abbrev pub vertex_at : List ℕ → Bool → List ℕ → ℕ → ℕ
 vertex_at column backward places p = at column (place_at backward places p)
@@ -38,10 +46,10 @@ pub record Marked (test : ℕ → Bool) (mark : ℕ → ℕ) (first stop passed 
   pub each : (p : ℕ) → first ≤ p → p < passed → test p ≡ true → is_in r (mark p) ≡ true
   pub whole : length r ≡ 256
 
--- the positions are those of the label's edges, and the one from which on they start at x or a later vertex: x's own edges, if it has any,
--- stand there
+-- positions that a step may pass over, and the one from which on the vertices where the edges start are x or later ones: x's own edges,
+-- if it has any, stand there
 pub record OwnEdges (p : Passed) (x own : ℕ) : Type 0 where
-  pub span : Span p.edge_count p.labels p.starts p.places p.label p.backward p.first p.stop
+  pub passable : Passable p.starts p.places p.backward p.first p.stop
   pub parted : Parted (start_at p) x p.first p.stop own own
 
 -- where the edge at position q ends, if q is before `stop` and its edge starts at x

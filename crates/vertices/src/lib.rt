@@ -59,7 +59,7 @@ pub fn all() -> Vertices
 }
 
 // Of the asked vertices the vertex x.
-fn only(asked: &Vertices, x: u8) -> Vertices
+pub fn only(asked: &Vertices, x: u8) -> Vertices
     ensures { Among asked.now (λ v. eqb v x) result }
 {
     let mut r = none();

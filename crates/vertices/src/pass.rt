@@ -2,13 +2,13 @@
 // passes over the edges of its own label only, forward in the edges' own order and backward in the index's. From a single vertex it passes
 // over those that start there, which stand together and are found by halving.
 
-ghost use Rattle.std.specs.Prelude.{◌≡◌, Bool, ℕ, ◌≤◌, ◌<◌, eqb};
+ghost use Rattle.std.specs.Prelude.{◌≡◌, Bool, List, ℕ, ◌≤◌, ◌<◌, eqb};
 ghost use Rattle.common.specs.Limits.{most_edges};
 ghost use Rattle.edge_index.specs.Spans.{place_at};
-ghost use Rattle.vertices.specs.Steps.{is_in, Among, leads};
+ghost use Rattle.vertices.specs.Steps.{is_in, Among, leads, edges_in};
 ghost use Rattle.vertices.specs.Places.{placed, OnlyEnd};
 ghost use Rattle.vertices.specs.Directions.{is_backward};
-ghost use Rattle.vertices.specs.Passes.{edges_along, OwnEdges, EndFrom};
+ghost use Rattle.vertices.specs.Passes.{PositionsOf, OwnEdges, EndFrom};
 
 use crate::{Place, Vertices, none};
 use common::MOST_EDGES;
@@ -21,8 +21,9 @@ pub enum Direction {
     Backward,
 }
 
-// The edges with a label, in lent columns: those at the positions from `first` to before `stop`, from `starts` to `ends`; backward in the
-// order of `places`. Their number, their labels and the label are what these positions are known by: no step reads them.
+// Edges in lent columns that a step may pass over: those at the positions from `first` to before `stop`, from `starts` to `ends`;
+// backward in the order of `places`. Evaluation makes one of the edges with a label (`OfLabel`): their number, their labels and the label
+// are what these positions are known by. No step reads them: it promises its result for any label whose positions these are.
 #[derive(Drop)]
 pub struct Pass<'a> {
     pub edge_count: usize,
@@ -37,7 +38,7 @@ pub struct Pass<'a> {
 }
 
 impl<'a> Model for Pass<'a> {
-    ghost use Rattle.edge_index.specs.Spans.{Span};
+    ghost use Rattle.edge_index.specs.Spans.{Passable};
     ghost use Rattle.vertices.specs.Passes.{Passed};
     ghost use Rattle.vertices.specs.Directions.{is_backward};
 
@@ -55,7 +56,7 @@ impl<'a> Model for Pass<'a> {
       stop = p.stop;
     } };
 
-    ghost invariant = { λ p. Span p.edge_count p.labels.now p.starts.now p.places.now p.label (is_backward p.direction) p.first p.stop };
+    ghost invariant = { λ p. Passable p.starts.now p.places.now (is_backward p.direction) p.first p.stop };
 }
 
 // Where the edges with a label end that start at a vertex: nowhere, once at a vertex, or there are several.
@@ -100,9 +101,10 @@ impl<'a> Pass<'a> {
         low
     }
 
-    // The vertices to which an edge leads from an asked one: each edge is looked at.
+    // The vertices to which an edge with the label leads from an asked one: each edge is looked at.
     pub fn reached_from(&self, asked: &Vertices) -> Vertices
-        ensures { (v : ℕ) → is_in result v ≡ leads (edges_along self.now) 2 1 self.now.label (is_in asked.now) v }
+        ensures { (n : ℕ) (labels : List ℕ) (l : ℕ) → PositionsOf self.now n labels l
+            → (v : ℕ) → is_in result v ≡ leads (edges_in n labels self.now.starts self.now.ends) 2 1 l (is_in asked.now) v }
     {
         let mut r = none();
         for p in self.first..self.stop {
@@ -114,9 +116,10 @@ impl<'a> Pass<'a> {
         r
     }
 
-    // The vertices to which an edge leads from x.
+    // The vertices to which an edge with the label leads from x.
     pub fn reached_from_one(&self, x: u8) -> Vertices
-        ensures { (v : ℕ) → is_in result v ≡ leads (edges_along self.now) 2 1 self.now.label (λ u. eqb u x) v }
+        ensures { (n : ℕ) (labels : List ℕ) (l : ℕ) → PositionsOf self.now n labels l
+            → (v : ℕ) → is_in result v ≡ leads (edges_in n labels self.now.starts self.now.ends) 2 1 l (λ u. eqb u x) v }
     {
         let mut r = none();
         for p in self.first_from(x)..self.stop {
@@ -129,9 +132,10 @@ impl<'a> Pass<'a> {
         r
     }
 
-    // An edge leads from x to that place.
+    // An edge with the label leads from x to that place.
     pub fn leads_to(&self, x: u8, place: Place) -> bool
-        ensures { result ≡ leads (edges_along self.now) 1 2 self.now.label (placed place) x }
+        ensures { (n : ℕ) (labels : List ℕ) (l : ℕ) → PositionsOf self.now n labels l
+            → result ≡ leads (edges_in n labels self.now.starts self.now.ends) 1 2 l (placed place) x }
     {
         for p in self.first_from(x)..self.stop {
             let k = edge_at(self.direction, self.places, p);
@@ -161,9 +165,11 @@ impl<'a> Pass<'a> {
         }
     }
 
-    // Where the only edge ends that starts at x, if there is one. That there are several nobody relies upon: it promises nothing.
+    // Where the only edge with the label ends that starts at x, if there is one. That there are several nobody relies upon: it promises
+    // nothing.
     pub fn only_end(&self, x: u8) -> Ends
-        ensures { OnlyEnd self.now x result }
+        ensures { (n : ℕ) (labels : List ℕ) (l : ℕ) → PositionsOf self.now n labels l
+            → OnlyEnd (edges_in n labels self.now.starts self.now.ends) l x result }
     {
         let own = self.first_from(x);
         let Some(end) = self.end_from(x, own) else {
@@ -175,11 +181,12 @@ impl<'a> Pass<'a> {
         }
     }
 
-    // Of the asked vertices those from which an edge leads to where P holds, which `found` says of every octet: each edge is looked at. A
-    // table and not a closure: measured, a call for every edge makes a step on sets up to twice as slow.
+    // Of the asked vertices those from which an edge with the label leads to where P holds, which `found` says of every octet: each edge is
+    // looked at. A table and not a closure: measured, a call for every edge makes a step on sets up to twice as slow.
     pub fn starts_to(&self, asked: &Vertices, found: &Vertices) -> Vertices
-        ensures { (P : ℕ → Bool) → ((v : ℕ) → v < 256 → is_in found.now v ≡ P v)
-            → Among asked.now (leads (edges_along self.now) 1 2 self.now.label P) result }
+        ensures { (n : ℕ) (labels : List ℕ) (l : ℕ) → PositionsOf self.now n labels l
+            → (P : ℕ → Bool) → ((v : ℕ) → v < 256 → is_in found.now v ≡ P v)
+            → Among asked.now (leads (edges_in n labels self.now.starts self.now.ends) 1 2 l P) result }
     {
         let mut r = none();
         for p in self.first..self.stop {

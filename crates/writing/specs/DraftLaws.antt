@@ -94,7 +94,7 @@ pub record Writing {B : Type 0} (octets : B → List ℕ) (post : ℕ → B → 
 module _ {B : Type 0} {octets : B → List ℕ} {post : ℕ → B → Type 0} {size kind : ℕ} {b : List ℕ} {d : Draft} {c : List ℕ} {e : Draft} {i count : ℕ}
     (w : Writing octets post size kind b d c e i) (space : RoomFor b d count size) (l : i < count) where
   -- there is room for the next one
-  writing_room : RoomFor c e 1 size
+  pub writing_room : RoomFor c e 1 size
   writing_room =
       let m : suc i * size ≤ count * size = mul-le-mul_right size l in
       record {

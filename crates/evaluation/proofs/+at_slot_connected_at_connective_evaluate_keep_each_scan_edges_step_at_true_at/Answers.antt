@@ -72,7 +72,7 @@ step_at-returns-in-Several t c =
     let fs = formulas_of a.rules.now in
     let cx = context_in a.rules.now a.q in
     let p = a.pass.now in
-    stepped (edges_along p) p.label (λ u. eqb u a.x) c.reached_from_one-there.ensures
+    stepped (edges_along p) p.label (λ u. eqb u a.x) (c.reached_from_one-there.ensures p.edge_count p.labels p.label c.requires.positions)
     (among_same (by_number fs cx a.f (c.from-right.ensures ∙ c.line_of.ensures.right)) c.evaluate.ensures) a.x (λ v. refl) c.has_any.ensures
 
 pub true_at-returns-in-7 : goal.true_at-returns-in-7
@@ -243,6 +243,6 @@ scan_edges-returns t c =
     let fs = formulas_of a.rules.now in
     let cx = context_in a.rules.now a.q in
     let p = a.pass.now in
-    scanned (edges_along p) p.label (is_in a.asked.now) c.reached_from-there.ensures
+    scanned (edges_along p) p.label (is_in a.asked.now) (c.reached_from-there.ensures p.edge_count p.labels p.label c.requires.positions)
     (among_same (by_number fs cx a.f (c.from-right.ensures ∙ c.line_of.ensures.right)) c.evaluate-found.ensures) (λ v. refl)
-    (c.starts_to-2.ensures (is_in c.evaluate-found.result) (λ v l. refl))
+    (c.starts_to-2.ensures p.edge_count p.labels p.label c.requires.positions (is_in c.evaluate-found.result) (λ v l. refl))

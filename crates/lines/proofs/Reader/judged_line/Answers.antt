@@ -8,8 +8,9 @@ use Rattle.lines.proofs.Reader.judged_line.Goals as goal
 
 pub returns : goal.returns
 returns c =
-    says_taken _ _ _ _ _ (sym (rw (c.in-Some.is, c.code.ensures, c.size.ensures.octets) at c.in_ok-line.ensures))
-    c.row-row.ensures
+    says_taken _ _ _ _ _ _ (sym (rw (c.in-Some.is, c.code.ensures) at c.in_ok-line.ensures.line))
+    c.in_ok-line.ensures.octets
+    c.row_at-row.ensures
     c.height_of-height.ensures
     c.in_ok-check.ensures
     refl
@@ -19,21 +20,22 @@ returns c =
 pub returns-in_err-line : goal.returns-in_err-line
 returns-in_err-line c =
     let p = err_from_is_err_and c.from_residual.result c.from_residual.ensures.1 in
-    rw (p.1, p.2) (says_refused _ _ _ _ _ (sym (rw (c.code.ensures, c.size.ensures.octets) at c.in_err-line.ensures)))
+    rw (p.1, p.2) (says_refused _ _ _ _ _ _ (sym (rw c.code.ensures at c.in_err-line.ensures.line)))
 
 pub returns-in_default : goal.returns-in_default
 returns-in_default c =
-    says_other _ _ _ _ _ (sym (rw (c.in_default.is, c.code.ensures, c.size.ensures.octets) at c.in_ok-line.ensures))
+    says_other _ _ _ _ _ _ (sym (rw (c.in_default.is, c.code.ensures) at c.in_ok-line.ensures.line))
 
 pub returns-in_err-check : goal.returns-in_err-check
 returns-in_err-check c =
     let p = err_from_is_err_and c.from_residual-in_err-check.result c.from_residual-in_err-check.ensures.1 in
     rw (p.1, p.2)
-    (says_wrong _ _ _ _ _ (sym (rw (c.in-Some.is, c.code.ensures, c.size.ensures.octets) at c.in_ok-line.ensures))
-    c.row-row.ensures
+    (says_wrong _ _ _ _ _ _ (sym (rw (c.in-Some.is, c.code.ensures) at c.in_ok-line.ensures.line))
+    c.in_ok-line.ensures.octets
+    c.row_at-row.ensures
     c.height_of-height.ensures
     c.in_err-check.ensures
     (some_number _))
 
 pub past-requires : goal.past-requires
-past-requires c = (c.requires, found_sum (found_line _ _ _ _ (sym (rw c.in-Some.is at c.in_ok-line.ensures))))
+past-requires c = (c.requires.bound, found_sum (found_line _ _ _ _ (sym (rw c.in-Some.is at c.in_ok-line.ensures.line))))

@@ -9,6 +9,16 @@ invariant_of-result c =
     let span = c.positions_of-span.ensures r.edge_count r.edge_labels r.edge_sources r.edge_targets r.index.places in
     let indexed = c.self.invariant in
     elim c.match-direction.branch [
-      | in-Forward w ↦ rw (w.sides-is, w.in-Forward.is) (span false indexed)
-      | in-Backward w ↦ rw (w.sides-is, w.in-Backward.is) (span true indexed)
+      | in-Forward w ↦ rw (w.sides-is, w.in-Forward.is) (span false indexed).passable
+      | in-Backward w ↦ rw (w.sides-is, w.in-Backward.is) (span true indexed).passable
+    ]
+
+pub returns-clause-positions : goal.returns-clause-positions
+returns-clause-positions c =
+    let r = c.self.inside.columns.now in
+    let span = c.positions_of-span.ensures r.edge_count r.edge_labels r.edge_sources r.edge_targets r.index.places in
+    let indexed = c.self.invariant in
+    elim c.match-direction.branch [
+      | in-Forward w ↦ rw w.in-Forward.is (span false indexed).listed
+      | in-Backward w ↦ rw w.in-Backward.is (span true indexed).listed
     ]

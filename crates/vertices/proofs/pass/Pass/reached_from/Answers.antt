@@ -6,5 +6,5 @@ use Rattle.vertices.proofs.pass.Pass.reached_from.Goals as goal
 
 pub returns : goal.returns
 returns c =
-    rw (← c.self.view_is) (ends_marked c.self.inside.starts.now c.self.inside.ends.now c.self.invariant.listed (is_in c.args.asked.now)
+    rw (← c.self.view_is) (λ n labels l listed. ends_marked c.self.inside.starts.now c.self.inside.ends.now listed (is_in c.args.asked.now)
     (marked_to_the_end c.loop-p.invariant (λ q a b. absurd (omega arith))))

@@ -10,10 +10,10 @@ returns-then-self-k c =
     let s = c.self.inside in
     let start = ap (at s.starts.now) c.edge_at-k.ensures.place in
     let own = rw (← c.self.view_is) at c.first_from-p.ensures.parted in
-    rw (← c.self.view_is) (ends_marked s.starts.now s.ends.now c.self.invariant.listed (λ u. eqb u c.args.x)
+    rw (← c.self.view_is) (λ n labels l listed. ends_marked s.starts.now s.ends.now listed (λ u. eqb u c.args.x)
     (marked_to_the_end c.loop-p.invariant
     (λ q f b. ne_eqb _ c.args.x
-    (none_after c.self.invariant.passable own c.loop-p.p c.loop-p.auto.p (λ e. c.if-self-k.true (start ∙ e)) q f b))))
+    (none_after c.self.invariant own c.loop-p.p c.loop-p.auto.p (λ e. c.if-self-k.true (start ∙ e)) q f b))))
 
 pub loop-p-preserved : goal.loop-p-preserved
 loop-p-preserved c =
@@ -26,5 +26,5 @@ loop-p-preserved c =
 
 pub returns : goal.returns
 returns c =
-    rw (← c.self.view_is) (ends_marked c.self.inside.starts.now c.self.inside.ends.now c.self.invariant.listed (λ u. eqb u c.args.x)
+    rw (← c.self.view_is) (λ n labels l listed. ends_marked c.self.inside.starts.now c.self.inside.ends.now listed (λ u. eqb u c.args.x)
     (marked_to_the_end c.loop-p.invariant (λ q a b. absurd (omega arith))))

@@ -28,5 +28,5 @@ loop-p-preserved c =
 
 pub returns : goal.returns
 returns c =
-    rw (← c.self.view_is) (λ P says. starts_marked c.self.inside.starts.now c.self.inside.ends.now c.self.invariant.listed P c.args.asked.now
+    rw (← c.self.view_is) (λ n labels l listed P says. starts_marked c.self.inside.starts.now c.self.inside.ends.now listed P c.args.asked.now
     (marked_to_the_end (c.loop-p.invariant P says) (λ q a b. absurd (omega arith))))

@@ -1,7 +1,7 @@
 -- `number_at` meets its contract.
 use Rattle.std.proofs.Common.{◌<◌, arith, rules}
 use Rattle.lines.proofs.Numbers.{value_none, value_more, value_fits}
-use Rattle.lines.proofs.Line.number_at.Goals as goal
+use Rattle.lines.proofs.number_at.Goals as goal
 
 pub loop-octet-preserved : goal.loop-octet-preserved
 loop-octet-preserved c = value_more c.loop-octet.invariant _ c.loop-octet-test.true c.from.ensures (search rules)
