@@ -62,7 +62,7 @@ asked_loads r q may asks = rw asks (may_be_asked r q may).loads
 module _ (q : Asked) (c : ObjectContext) (loads : loadable q.rules ≡ true) (rules : c.rules ≡ q.rules) (object : c.object ≡ q.object)
     (requestor : c.requestor ≡ q.requestor) (held : RolesHeld q.rules q.requestor c.roles) where
   -- in a context with the roles that the requestor holds, it is evaluation afresh, of the principals' formulas
-  truth_same : (p : ℕ) → p < q.rules.principal_count → truth_in c (formula_of q.rules p) ≡ truth_for q (formula_of q.rules p)
+  pub truth_same : (p : ℕ) → p < q.rules.principal_count → truth_in c (formula_of q.rules p) ≡ truth_for q (formula_of q.rules p)
   truth_same p l =
       let few = table_few q.rules formula (loadable_table q.rules loads formula) in
       rw (rules, object, requestor)

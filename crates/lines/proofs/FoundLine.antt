@@ -24,7 +24,7 @@ use Rattle.lines.specs.declared.Row.TheVariants as rows
 use Rattle.lines.specs.declared.Line.{Line}
 use Rattle.lines.specs.NextLine.{NextValues, no_line, refused_line, body_line, next_values, next_is, next_of}
 use Rattle.lines.specs.NextLine.{octets_in, octets_at, number_at}
-use Rattle.lines.specs.Judging.{row_at, most_line_sum}
+use Rattle.lines.specs.Judging.{table_of, row_at, kind_in, most_line_sum}
 
 -- a line of the kind and size
 pub record FoundLine (text : List ℕ) (offset kind size next sum : ℕ) : Type 0 where
@@ -48,6 +48,18 @@ row_same Principals n l m h = λ i. Principal (h 2 i) (h 3 i)
 row_same Exclusions n l m h = λ i. Exclusion (h 2 i) (h 3 i)
 row_same Prerequisites n l m h = λ i. Prerequisite (h 2 i) (h 3 i)
 row_same Methods n l m h = λ i. Method (h 2 i) (cond (ltb 10 n) (number (table 8 (λ j. h (n - 9 + j) i))) 0)
+
+-- and so is the kind whose they are
+pub row_kind : (kind : TableKind) (size : ℕ) (os : List ℕ) → kind_in (row_at kind size os) ≡ table_of kind
+row_kind Users n os = refl
+row_kind Edges n os = refl
+row_kind Formulas n os = refl
+row_kind Demarcations n os = refl
+row_kind Hierarchy n os = refl
+row_kind Principals n os = refl
+row_kind Exclusions n os = refl
+row_kind Prerequisites n os = refl
+row_kind Methods n os = refl
 
 -- the octets in a room that was empty: one by one, as numbers, and as the line's numbers
 module _ {text : List ℕ} {offset kind size next sum : ℕ} (f : FoundLine text offset kind size next sum) {room : List ℕ}

@@ -1,5 +1,5 @@
 -- A line of any kind that has a table, by the numbers that its body may hold (`Row`): what refuses it, and what comes after it.
-use Rattle.std.specs.Prelude.{ℕ, ◌+◌, ◌-◌, ◌*◌, ◌≤◌, Bool, true, false, not, cond, ◌&&◌, List, [], ◌∷◌, ltb, leb, eqb, Option, None, Some, Result, Ok, Err}
+use Rattle.std.specs.Prelude.{ℕ, ◌+◌, ◌-◌, ◌*◌, ◌≤◌, ◌<◌, ◌≡◌, Bool, true, false, not, cond, ◌&&◌, List, [], ◌∷◌, ltb, leb, eqb, Option, None, Some, Result, Ok, Err}
 use Rattle.common.specs.Lists.{at}
 use Rattle.common.specs.Limits.{most_edges, most_formulas, most_demarcations, most_principals, most_methods, most_lines}
 use Rattle.common.specs.Causes.{first}
@@ -106,6 +106,10 @@ refusal_by m h (Exclusion p q) =
     first (causes false (not (ltb p q && ltb q m.principals)) (ltb (pair_key p q) m.least_key))
 refusal_by m h (Prerequisite p q) = first (causes false (not (pair_in_range m.principals p q)) (ltb (pair_key p q) m.least_key))
 refusal_by m h (Method f w) = first (causes (leb most_methods m.row) (not (leb f 1)) false)
+
+-- the heights of formulas that a formula's line is judged by are small; of another kind's line none is read
+abbrev pub HeightsLow : Kind → List ℕ → Type 0
+HeightsLow k heights = k ≡ formula → (g : ℕ) → at heights g < 255
 
 -- ---- the line at a cursor
 

@@ -12,7 +12,7 @@ ghost use Rattle.policy.specs.Table.{code};
 ghost use Rattle.policy.specs.Rows.{key};
 ghost use Rattle.lines.specs.NextLine.{next_values, next_of, other_refusal, number_at};
 ghost use Rattle.lines.specs.Judging.{table_of, size_of, privileges_at, row_at, kind_in, fields_of, height_by, refusal_by};
-ghost use Rattle.lines.specs.Judging.{most_line_sum, CursorBound, moved_past, judged_values, judged_of};
+ghost use Rattle.lines.specs.Judging.{most_line_sum, CursorBound, HeightsLow, moved_past, judged_values, judged_of};
 
 use common::{LINE_ROOM, MOST_FORMULAS, Refusal};
 use std::marker::Model;
@@ -187,21 +187,18 @@ impl Row {
 
 // ---- what refuses them
 
-// The heights of the formulas read so far: each small enough for one more to be an octet.
+// The heights of the formulas read so far.
 #[derive(Drop)]
 pub struct Heights {
     of: [u8; MOST_FORMULAS],
 }
 
 impl Model for Heights {
-    ghost use Rattle.std.specs.Prelude.{ℕ, ◌<◌, List};
-    ghost use Rattle.common.specs.Lists.{at};
+    ghost use Rattle.std.specs.Prelude.{ℕ, List};
 
     ghost Value = { List ℕ };
 
     ghost view = { λ heights. heights.of };
-
-    ghost invariant = { λ heights. (g : ℕ) → at heights.of g < 255 };
 }
 
 impl Heights {
@@ -216,7 +213,7 @@ impl Heights {
 
     // Keeps the height of a formula.
     pub fn keep(&mut self, formula: usize, height: u8)
-        requires { (formula < most_formulas) × (height < 255) }
+        requires { formula < most_formulas }
         ensures { self.new ≡ set self.old formula height }
     {
         self.of[formula] = height;
@@ -224,6 +221,7 @@ impl Heights {
 
     // The height of the formula that a line says, from the heights of those before it; 0 for any other line.
     fn height_of(&self, row: Row) -> u8
+        requires { HeightsLow (kind_in row) self.now }
         ensures { result ≡ height_by row (at self.now) }
     {
         match row {
@@ -394,6 +392,7 @@ impl<'a> Reader<'a> {
     ) -> Result<Option<Taken>, Refusal>
         requires bound { CursorBound cursor }
         requires size { size ≤ line_room }
+        requires low { HeightsLow (table_of kind) heights.now }
         ensures { judged_values result ≡ judged_of self.now cursor kind size bounds (at heights.now) }
     {
         let mut octets = [0; LINE_ROOM];

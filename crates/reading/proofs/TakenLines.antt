@@ -15,8 +15,9 @@ use Rattle.policy.specs.Table.{Kind, formula}
 use Rattle.policy.specs.Table.{code, count, room, appended, widths}
 use Rattle.policy.specs.LinesBefore.{lines_most}
 use Rattle.policy.specs.Height.{height}
-use Rattle.policy.specs.HeightLaws.{Heights, heights_start, heights_appended}
+use Rattle.policy.specs.HeightLaws.{Heights, heights_start, heights_appended, heights_low}
 use Rattle.policy.specs.HeightLaws as laws
+use Rattle.policy.specs.LoadableLaws.{table_few}
 use Rattle.policy.specs.TableLaws.{ColumnLengths, count_same, least_appended}
 use Rattle.policy.specs.Rows.{key, minimum_key, row_refusal}
 use Rattle.policy.specs.RowLaws.{user_values, edge_values, formula_values, demarcation_values, hierarchy_values, principal_values}
@@ -32,10 +33,10 @@ use Rattle.lines.specs.declared.Bounds.{Bounds}
 use Rattle.lines.specs.declared.Cursor.{Cursor}
 use Rattle.lines.specs.declared.Taken.{Taken}
 use Rattle.lines.specs.NextLine.{no_line, body_line, next_of, octets_in, octets_at}
-use Rattle.lines.specs.Judging.{table_of, size_of, row_at, kind_in, fields_of, height_by, refusal_by, CursorBound, judged_values, judged_of}
+use Rattle.lines.specs.Judging.{table_of, size_of, row_at, kind_in, fields_of, height_by, refusal_by, CursorBound, HeightsLow, judged_values, judged_of}
 use Rattle.lines.proofs.JudgedLine.{Refuses, Takes, refusal_here, values_say}
 use Rattle.lines.proofs.JudgedLine.Refuses.{as_line, by_numbers}
-use Rattle.lines.proofs.FoundLine.{FoundLine, found_line}
+use Rattle.lines.proofs.FoundLine.{FoundLine, found_line, row_kind}
 use Rattle.reading.specs.declared.Stage.{Stage}
 use Rattle.reading.specs.Body.{numbers}
 use Rattle.reading.specs.Stages.{refused_at, Ready, Reads}
@@ -51,7 +52,7 @@ two os = sym (λ i. one_octet os 2 i ∷ one_octet os 3 i ∷ [])
 three : (os : List ℕ) → fields_at os (1 ∷ 1 ∷ 1 ∷ []) 2 ≡ at os 2 ∷ at os 3 ∷ at os 4 ∷ []
 three os = sym (λ i. one_octet os 2 i ∷ one_octet os 3 i ∷ one_octet os 4 i ∷ [])
 
--- the numbers of a line's body, and the kind whose they are
+-- the numbers of a line's body
 row_numbers : (kind : TableKind) (os : List ℕ) → fields_at os (widths (table_of kind)) 2 ≡ fields_of (row_at kind (size_of (table_of kind)) os)
 row_numbers Users os = sym (λ i. one_octet os 2 i ∷ two_octets_lem os 3 i ∷ [])
 row_numbers Edges os = three os
@@ -62,17 +63,6 @@ row_numbers Principals os = two os
 row_numbers Exclusions os = two os
 row_numbers Prerequisites os = two os
 row_numbers Methods os = sym (λ i. one_octet os 2 i ∷ fields_at os (8 ∷ []) 3)
-
-row_kind : (kind : TableKind) (os : List ℕ) → kind_in (row_at kind (size_of (table_of kind)) os) ≡ table_of kind
-row_kind Users os = refl
-row_kind Edges os = refl
-row_kind Formulas os = refl
-row_kind Demarcations os = refl
-row_kind Hierarchy os = refl
-row_kind Principals os = refl
-row_kind Exclusions os = refl
-row_kind Prerequisites os = refl
-row_kind Methods os = refl
 
 -- what refuses them, held to the counts of a record
 abbrev pub bounds_of : Record → ℕ → ℕ → Bounds
@@ -196,6 +186,10 @@ module _ (kind : TableKind) where
     pub taken_bound : CursorBound c
     taken_bound = cursor_bound text k g.partway
 
+    -- the heights kept of formulas are small
+    pub taken_heights : HeightsLow k heights
+    taken_heights = λ f. heights_low (g.high f) (table_few r formula (g.partway.begun.loads formula))
+
     -- no line of the kind is left
     pub taken_all : next_of text c.offset (code k) (size_of k) ≡ no_line → Reads text k start (Ok (stage c r))
     taken_all e = partway_done text k (has_table kind) start c r g.partway e
@@ -211,7 +205,7 @@ module _ (kind : TableKind) where
 
       of_kind : kind_in v ≡ k
       unfolding v
-      of_kind = row_kind kind (octets_at text c.offset)
+      of_kind = row_kind kind (size_of k) (octets_at text c.offset)
 
       fields : numbers k found.os ≡ fields_of v
       unfolding v

@@ -11,7 +11,7 @@ use Rattle.policy.specs.Table.{formula}
 use Rattle.reading.specs.Stages.{refused_at}
 use Rattle.reading.proofs.Mapped.{mapped_ok, mapped_err}
 use Rattle.reading.proofs.TakenLines.{taken_start, taken_bound, taken_refused, taken_none, taken_one, only_formulas}
-use Rattle.reading.proofs.TakenLines.{taken_room, taken_few, taken_less, taken_place, taken_height, taken_more}
+use Rattle.reading.proofs.TakenLines.{taken_room, taken_few, taken_less, taken_place, taken_more, taken_heights}
 use Rattle.reading.proofs.read_kind.Goals as goal
 use Rattle.reading.proofs.read_kind.Goals.{then-eq, else-eq}
 
@@ -34,6 +34,9 @@ overflow_add-line c = let h = (taken_bound _ c.loop-taken.invariant).few in omeg
 pub judged_line-requires-clause-bound : goal.judged_line-requires-clause-bound
 judged_line-requires-clause-bound c = taken_bound _ c.loop-taken.invariant
 
+pub judged_line-requires-clause-low : goal.judged_line-requires-clause-low
+judged_line-requires-clause-low c = taken_heights _ c.loop-taken.invariant
+
 pub returns-in_err-taken : goal.returns-in_err-taken
 returns-in_err-taken c =
     let p = err_from_is_err_and c.from_residual.result c.from_residual.ensures.1 in
@@ -52,7 +55,7 @@ keep-requires c =
     let q = mapped_ok _ c.judged_line.result c.map_err.ensures.cases c.in_ok-taken.was in
     let w = taken_one _ g (rw (q, c.in-Some.is, c.size.ensures.octets) at c.judged_line.ensures) in
     let f : table_of c.args.kind ≡ formula = ap table_of (same_true the_type (search rules) c.args.kind Formulas (sym c.if-eq.ensures)) in
-    let h = taken_height _ g w in (taken_place _ g w f, omega arith)
+    taken_place _ g w f
 
 pub append-requires : goal.append-requires
 append-requires c =

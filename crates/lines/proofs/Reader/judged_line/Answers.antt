@@ -1,7 +1,8 @@
 -- `judged_line` meets its contract: each way out is a case of `judged_of`.
-use Rattle.std.proofs.Common.{sym, refl}
+use Rattle.std.proofs.Common.{sym, ap, ◌∙◌, refl}
 use Rattle.std.proofs.lemmas.Result.{err_from_is_err_and}
-use Rattle.lines.proofs.FoundLine.{found_line, found_sum}
+use Rattle.lines.specs.Judging.{kind_in}
+use Rattle.lines.proofs.FoundLine.{found_line, found_sum, row_kind}
 use Rattle.lines.proofs.JudgedLine.{says_other, says_refused, says_wrong, says_taken}
 use Rattle.lines.proofs.RefusalSome.{some_number}
 use Rattle.lines.proofs.Reader.judged_line.Goals as goal
@@ -39,3 +40,7 @@ returns-in_err-check c =
 
 pub past-requires : goal.past-requires
 past-requires c = (c.requires.bound, found_sum (found_line _ _ _ _ (sym (rw c.in-Some.is at c.in_ok-line.ensures.line))))
+
+pub height_of-height-requires : goal.height_of-height-requires
+height_of-height-requires c =
+    λ f. c.requires.low (sym (row_kind c.args.kind _ _) ∙ ap kind_in (sym c.row_at-row.ensures) ∙ f)
