@@ -13,12 +13,10 @@ use Rattle.common.specs.Refusals.{not_loadable}
 use borrow.Author.Tests.{ne_eqb}
 use Rattle.policy.specs.declared.Record.{Record}
 use Rattle.policy.specs.declared.Memo.{Memo}
-use Rattle.policy.specs.Table.{formula, with_memo}
+use Rattle.policy.specs.Table.{with_memo}
 use Rattle.policy.specs.Loadable.{loadable}
-use Rattle.policy.specs.LoadableLaws.{loadable_table, table_few}
-use Rattle.formula.specs.Requests.{Asked, RolesHeld}
-use Rattle.formula.specs.EvaluationLaws.{true_at_holds}
-use Rattle.evaluation.specs.declared.context.ObjectContext.{ObjectContext}
+use Rattle.policy.specs.LoadableLaws.{loadable_table}
+use Rattle.formula.specs.Requests.{Asked}
 use Rattle.search.specs.Answers.{found_values}
 use Rattle.justification.specs.Justification.{least}
 use Rattle.justification.specs.declared.Question.{Question}
@@ -26,11 +24,10 @@ use Rattle.justification.specs.Masked.{least_values}
 use Rattle.justification.specs.MarkedSets.{Marks}
 use Rattle.justification.specs.Predicates.{question_refusal}
 use Rattle.justification.proofs.Asking.{asked as may_be_asked}
-use Rattle.memo.specs.Memo.{value, memo_for, newly, truth_for, truth_in}
+use Rattle.memo.specs.Memo.{value, memo_for, newly}
 use Rattle.memo.specs.Walk.{formula_of, outcome, evaluated_all, eagerly, searching}
 use Rattle.memo.specs.WalkLaws.{MemoLengths, walk_searches}
-use Rattle.memo.specs.StepLaws.{formulas_in_memo, least_ext, evaluated_ext, searching_ext}
-use Rattle.memo.proofs.Places.{formula_named}
+use Rattle.memo.specs.StepLaws.{formulas_in_memo, least_ext}
 use Rattle.access.specs.declared.Choice.{Choice}
 use Rattle.access.specs.Answers.{Answer, set_granted}
 use Rattle.access.specs.Access.{truth_at, answered, leaves, refused, asked, eager, lazy}
@@ -58,25 +55,6 @@ least_found None maybe.none e = refl
 pub asked_loads : (r : Record) (q : Question) {a : Asked} → question_refusal r q ≡ 0
     → a ≡ record { rules = r; object = q.object; requestor = q.requestor } → loadable a.rules ≡ true
 asked_loads r q may asks = rw asks (may_be_asked r q may).loads
-
-module _ (q : Asked) (c : ObjectContext) (loads : loadable q.rules ≡ true) (rules : c.rules ≡ q.rules) (object : c.object ≡ q.object)
-    (requestor : c.requestor ≡ q.requestor) (held : RolesHeld q.rules q.requestor c.roles) where
-  -- in a context with the roles that the requestor holds, it is evaluation afresh, of the principals' formulas
-  pub truth_same : (p : ℕ) → p < q.rules.principal_count → truth_in c (formula_of q.rules p) ≡ truth_for q (formula_of q.rules p)
-  truth_same p l =
-      let few = table_few q.rules formula (loadable_table q.rules loads formula) in
-      rw (rules, object, requestor)
-      (true_at_holds q.rules (formula_of q.rules p) q.object q.requestor c.roles held (formula_named q.rules p loads l) few)
-
-  -- with the principals of the same record
-  module _ {r : Record} (is : r ≡ q.rules) (m : Memo) where
-    pub evaluated_for : evaluated_all (truth_in c) r m (below r.principal_count)
-        ≡ evaluated_all (truth_for q) q.rules m (below q.rules.principal_count)
-    evaluated_for = rw is (evaluated_ext (truth_in c) (truth_for q) q.rules truth_same m)
-
-    pub searching_for : (k : ℕ) → searching (r.principal_count + 1) (truth_in c) r k m
-        ≡ searching (q.rules.principal_count + 1) (truth_for q) q.rules k m
-    searching_for k = rw is (searching_ext (truth_in c) (truth_for q) q.rules truth_same (q.rules.principal_count + 1) k m)
 
 -- ---- the answer, with the record as it is left
 

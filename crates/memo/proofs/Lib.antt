@@ -1,3 +1,4 @@
 pub mod Places
+pub mod InContext
 mod Memos
 mod Weighing

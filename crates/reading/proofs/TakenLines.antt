@@ -1,9 +1,11 @@
 -- The lines that `read_kind` has taken: what its loop keeps, for any kind that has a table.
+use Prim.Native.Nat.{zero, suc}
 use Rattle.std.specs.Prelude.{ℕ, ◌+◌, ◌-◌, ◌≤◌, ◌<◌, ◌≡◌, refl, Bool, true, false, not, List, [], ◌∷◌, length, set, replicate, leb, None, Some, Ok, Err}
 use Rattle.std.proofs.Common.{sym, ◌∙◌, ap, subst, arith}
 use mathlib.Core.Path.{subst₂}
 use borrow.Author.Tests.{leb-true}
 use Rattle.common.specs.Lists.{at}
+use Rattle.common.specs.ListLaws.{zero_at}
 use Rattle.common.specs.BoolLaws.{and_cases}
 use Rattle.common.specs.Causes.{first}
 use Rattle.common.specs.Limits.{most_formulas, most_lines, greatest_height}
@@ -160,6 +162,20 @@ only_formulas Principals e = absurd cc
 only_formulas Exclusions e = absurd cc
 only_formulas Prerequisites e = absurd cc
 only_formulas Methods e = absurd cc
+
+-- the heights kept are those of formulas in range, whatever the kind
+abbrev pub Small : List ℕ → Type 0
+Small heights = (g : ℕ) → at heights g ≤ greatest_height
+
+pub small_none : Small (replicate most_formulas 0)
+small_none g = rw (zero_at most_formulas g) (omega arith)
+
+pub small_kept : (heights : List ℕ) (n : ℕ) {height : ℕ} → Small heights → height ≤ greatest_height → Small (set heights n height)
+small_kept [] n h low g = h g
+small_kept (x ∷ l) zero h low zero = low
+small_kept (x ∷ l) zero h low (suc g) = h (suc g)
+small_kept (x ∷ l) (suc n) h low zero = h zero
+small_kept (x ∷ l) (suc n) h low (suc g) = small_kept l n (λ j. h (suc j)) low g
 
 -- n lines of the kind have been taken, with the least key that may follow and, of formulas, their heights
 pub record TakenLines (text : List ℕ) (k : Kind) (start : Stage) (c : Cursor) (r : Record) (n least : ℕ) (heights : List ℕ) : Type 0 where

@@ -1,6 +1,7 @@
 -- `choose_eagerly` meets its contract: the least set of those with the value true, once all are evaluated.
 use Rattle.std.proofs.Common.{◌∙◌}
-use Rattle.access.proofs.Choosing.{eager_answer, asked_loads, evaluated_for}
+use Rattle.memo.proofs.InContext.{evaluated_for}
+use Rattle.access.proofs.Choosing.{eager_answer, asked_loads}
 use Rattle.access.proofs.choose_eagerly.Goals as goal
 
 pub returns : goal.returns

@@ -1,6 +1,7 @@
 -- `choose_lazily` meets its contract: the searches, round by round, are the walk over all candidates.
 use Rattle.std.proofs.Common.{◌∙◌}
-use Rattle.access.proofs.Choosing.{lazy_answer, asked_loads, searching_for}
+use Rattle.memo.proofs.InContext.{searching_for}
+use Rattle.access.proofs.Choosing.{lazy_answer, asked_loads}
 use Rattle.access.proofs.choose_lazily.Goals as goal
 
 pub returns : goal.returns
